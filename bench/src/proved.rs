@@ -1,0 +1,35 @@
+//! The proved library, as a Rust program calls it.
+
+extern "C" {
+    // A Rattle slice is passed as a pointer and a length.
+    fn proration_split(
+        amount: i64,
+        weights: *const u64,
+        weight_count: usize,
+        keys: *const u64,
+        key_count: usize,
+        shares: *mut i64,
+        share_count: usize,
+    ) -> u64;
+}
+
+/// The shares of the amount, or document 01's number of the refusal. Any arguments will do: the call tests them itself.
+pub fn split(amount: i64, weights: &[u64], keys: &[u64], shares: &mut [i64]) -> Result<(), u64> {
+    // SAFETY: each pointer comes with the length of its slice, and the slices live through the call.
+    let answer = unsafe {
+        proration_split(
+            amount,
+            weights.as_ptr(),
+            weights.len(),
+            keys.as_ptr(),
+            keys.len(),
+            shares.as_mut_ptr(),
+            shares.len(),
+        )
+    };
+    if answer == 0 {
+        Ok(())
+    } else {
+        Err(answer)
+    }
+}

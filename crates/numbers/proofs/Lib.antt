@@ -1,0 +1,5 @@
+pub mod Sums
+pub mod Filled
+pub mod Lists
+pub mod Amounts
+pub mod Rounding

@@ -1,0 +1,4 @@
+pub mod Sums
+pub mod Lists
+pub mod Amounts
+pub mod Nearest

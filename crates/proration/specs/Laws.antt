@@ -1,0 +1,33 @@
+-- What proration promises, for any number of parties. Assumes nothing.
+use mathlib.Core.Path.{_≡_}
+use mathlib.Core.List.{List}
+use mathlib.Core.Logic.{_⊎_}
+use Prim.Native.Nat.{ℕ, _+_, _*_, _≤_, _<_}
+use lib.IntN.{ℤ, pos, natAbs, _-ℤ_, _*ℤ_}
+use lib.ListN.{length}
+use Rattle.numbers.specs.Sums.{at, atZ, total, totalZ}
+use Rattle.numbers.specs.Amounts.{is-negative}
+use Rattle.proration.specs.Proration.{counted, prorateZ}
+
+-- s is less than one unit from the exact a × w / W
+pub record Near (a W w s : ℕ) : Type 0 where
+  pub above : W * s < a * w + W
+  pub below : a * w < W * s + W
+
+-- The shares of the amount z over the weights ws, for parties whose keys are distinct. "A share's exact proportion is A × w_i / W":
+-- a share is less than 1 from it where W × share is less than W from A × w_i.
+pub record Fair (z : ℤ) (ws ks : List ℕ) : Type 0 where
+  -- one share for each party, and they add up to the amount
+  pub parties : length (prorateZ z ws ks) ≡ length ws
+  pub adds-up : totalZ (prorateZ z ws ks) ≡ z
+  -- each is less than 1 from its exact proportion
+  pub near : (i : ℕ) → i < length ws
+      → natAbs (pos (total (counted ws)) *ℤ atZ (prorateZ z ws ks) i -ℤ z *ℤ pos (at (counted ws) i)) < total (counted ws)
+  -- each is 0 or has the amount's sign, and is at most the amount in size
+  pub sign : (i : ℕ) → i < length ws
+      → (atZ (prorateZ z ws ks) i ≡ pos 0) ⊎ (is-negative (atZ (prorateZ z ws ks) i) ≡ is-negative z)
+  pub size : (i : ℕ) → i < length ws → natAbs (atZ (prorateZ z ws ks) i) ≤ natAbs z
+  -- a weight of 0 gets 0, unless all weights are 0
+  pub nothing : 0 < total ws → (i : ℕ) → i < length ws → at ws i ≡ 0 → atZ (prorateZ z ws ks) i ≡ pos 0
+  -- of an amount no larger than the weights' sum, no party gets more than its weight
+  pub capped : natAbs z ≤ total ws → (i : ℕ) → i < length ws → natAbs (atZ (prorateZ z ws ks) i) ≤ at ws i

@@ -1,0 +1,4 @@
+pub mod Proration
+pub mod Laws
+pub mod Cut
+pub mod Call

@@ -1,0 +1,11 @@
+//! The stored cases of the programs.
+
+pub mod call_lists;
+pub mod estimate;
+pub mod file_builder;
+pub mod hand_lists;
+mod loaded_days;
+pub mod prorations;
+pub mod recorder;
+pub mod replay;
+pub mod vector_files;

@@ -1,0 +1,29 @@
+//! An independent calculation of document 01 in exact integers.
+
+pub mod bytes;
+pub mod calendar;
+pub mod calls;
+pub mod cases;
+pub mod confirm;
+pub mod damaged;
+pub mod day_book;
+pub mod day_file;
+pub mod estimate;
+pub mod examples;
+pub mod files;
+pub mod inventory;
+pub mod limits;
+pub mod list_check;
+pub mod point_day;
+pub mod proration;
+pub mod prorations;
+pub mod reading;
+pub mod refusal;
+pub mod replay;
+pub mod rng;
+pub mod rounding;
+pub mod run;
+pub mod stored;
+pub mod supply;
+pub mod temperature;
+pub mod vectors;
