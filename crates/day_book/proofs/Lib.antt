@@ -1,0 +1,4 @@
+pub mod Keeps
+pub mod Lines
+pub mod Given
+pub mod Theorem

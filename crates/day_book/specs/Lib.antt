@@ -1,0 +1,4 @@
+pub mod Book
+pub mod Shares
+pub mod Claim
+pub mod Cases

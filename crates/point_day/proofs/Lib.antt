@@ -1,0 +1,12 @@
+pub mod Taken
+pub mod Arrays
+pub mod Back
+pub mod Called
+pub mod Each
+pub mod Sound
+pub mod Wholes
+pub mod Good
+pub mod Steps
+pub mod Settling
+pub mod Bounds
+pub mod Weights

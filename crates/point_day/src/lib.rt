@@ -1,0 +1,147 @@
+ghost use mathlib.Core.Path.{_≡_};
+ghost use Rattle.point_day.specs.Day.{fresh};
+ghost use Rattle.point_day.specs.Struct.{laid};
+
+// Limits of a point-day.
+pub const USERS: usize = 64;
+
+pub const KINDS: usize = 5;
+
+pub const CELLS: usize = 320;
+
+pub const LIMIT: u64 = 1000000000;
+
+pub const AMOUNT: u64 = 2000000000;
+
+pub const COEFFICIENT: u64 = 10000;
+
+pub const PARTS: u64 = 100000;
+
+pub const TOLERANCE: u64 = 100;
+
+// A stand-in takes so many rows; its pairs stand in one array, USERS places a row.
+pub const ROWS: usize = 15;
+
+pub const PAIRS: usize = 960;
+
+pub enum Stage {
+    Provisional,
+    FinalProvisional,
+    FinalDefinitive,
+}
+
+// Emission and downstream emission.
+pub enum Measurement {
+    Unmeasured,
+    Measured(u64, u64),
+}
+
+// One point on one gas day. The users stand in the order in which they joined; kind k of slot s is cell 5 s + k - 1.
+pub struct PointDay {
+    pub stage: Stage,
+    pub allotted: bool,
+    pub measurement: Measurement,
+    pub count: usize,
+    pub users: [u16; USERS],
+    pub consumption: [i64; CELLS],
+    pub losses: [i64; CELLS],
+    pub balance: [i64; CELLS],
+    pub revision: [i64; USERS],
+}
+
+// The rows of a stand-in: how many pairs each has; user and amount of pair j of row i stand at 64 i + j.
+pub struct StandInRows {
+    pub counts: [usize; ROWS],
+    pub users: [u16; PAIRS],
+    pub amounts: [i64; PAIRS],
+}
+
+// The answers, refused with document 01's number.
+pub enum JoinAnswer {
+    Refused(u8),
+    Done,
+}
+
+pub enum LineAnswer {
+    Refused(u8),
+    LossesAdded(u64),
+}
+
+pub enum MeasureAnswer {
+    Refused(u8),
+    Done,
+}
+
+pub enum AllotAnswer {
+    Refused(u8),
+    Done,
+}
+
+pub enum StandInAnswer {
+    Refused(u8),
+    RowsLookedAt(usize),
+}
+
+pub enum ReviseAnswer {
+    Refused(u8),
+    WithinTolerance(i64),
+    Assigned(i64),
+}
+
+pub enum StartFinalAnswer {
+    Refused(u8),
+    Done,
+}
+
+// Each call's answer, and the point-day afterwards.
+pub struct JoinResult {
+    pub answer: JoinAnswer,
+    pub day: PointDay,
+}
+
+pub struct LineResult {
+    pub answer: LineAnswer,
+    pub day: PointDay,
+}
+
+pub struct MeasureResult {
+    pub answer: MeasureAnswer,
+    pub day: PointDay,
+}
+
+pub struct AllotResult {
+    pub answer: AllotAnswer,
+    pub day: PointDay,
+}
+
+pub struct StandInResult {
+    pub answer: StandInAnswer,
+    pub day: PointDay,
+}
+
+pub struct ReviseResult {
+    pub answer: ReviseAnswer,
+    pub day: PointDay,
+}
+
+pub struct StartFinalResult {
+    pub answer: StartFinalAnswer,
+    pub day: PointDay,
+}
+
+// A fresh point-day.
+pub fn fresh_day() -> PointDay
+    ensures { λ r. ⌜ r ≡ laid fresh ⌝ }
+{
+    PointDay {
+        stage: Stage::Provisional,
+        allotted: false,
+        measurement: Measurement::Unmeasured,
+        count: 0,
+        users: [0; USERS],
+        consumption: [0; CELLS],
+        losses: [0; CELLS],
+        balance: [0; CELLS],
+        revision: [0; USERS],
+    }
+}
