@@ -1,0 +1,4 @@
+pub mod Weighing
+pub mod Parts
+pub mod Sharing
+pub mod Outcomes

@@ -1,0 +1,141 @@
+ghost use mathlib.Core.Path.{_≡_};
+ghost use mathlib.Core.Bool.{true};
+ghost use mathlib.Core.List.{map, _++_};
+ghost use Prim.Native.Nat.{ℕ, _≤_, _<_};
+ghost use lib.IntN.{natAbs, _+ℤ_};
+ghost use lib.ListN.{length, drop, replicate};
+ghost use Rattle.numbers.specs.Sums.{table, at, atZ};
+ghost use Rattle.numbers.specs.Lists.{every};
+ghost use Rattle.numbers.specs.Amounts.{Within};
+ghost use Rattle.proration.specs.Proration.{prorateZ};
+ghost use Rattle.point_day.specs.Limits.{USERS, LIMIT, AMOUNT};
+ghost use Rattle.point_day.specs.Day.{no-more};
+ghost use Rattle.point_day.specs.Calls.{negative};
+ghost use Rattle.columns.specs.Rooms.{ROOM};
+use point_day::AMOUNT;
+use point_day::USERS;
+
+// Columns of a point-day's users: one number or amount for each user.
+
+// Zeros. (A call, so that no proof above sees its elements one by one.)
+fn column() -> [u64; USERS]
+    ensures { λ r. ⌜ r ≡ replicate USERS 0 ⌝ }
+{
+    [0; USERS]
+}
+
+fn wide(number: u16) -> u64
+    ensures { λ r. ⌜ r ≡ number ⌝ }
+{
+    number as u64
+}
+
+// A user's key in a proration: its number, not its place.
+fn key(users: &[u16], i: usize) -> u64
+    requires { ⌜ i < length (now users) ⌝ }
+    ensures { λ r. ⌜ r ≡ at (now (users .entry)) i ⌝ }
+{
+    wide(users[i])
+}
+
+// The keys of users; later keys stay.
+fn keys_of(users: &[u16], keys: &mut [u64])
+    requires { ⌜ length (now users) ≤ length (now keys) ⌝ }
+    ensures { λ _. ⌜ now (keys .exit) ≡ now (users .entry) ++ drop (length (now (users .entry))) (now (keys .entry)) ⌝ }
+{
+    let mut i = 0;
+    while i < users.len() {
+        keys[i] = key(users, i);
+        i += 1;
+    }
+}
+
+// The sizes of the amounts; later numbers stay.
+fn sizes_of(amounts: &[i64], sizes: &mut [u64])
+    requires { ⌜ (length (now amounts) ≤ length (now sizes)) × ((i : ℕ) → Within ROOM (atZ (now amounts) i)) ⌝ }
+    ensures { λ _. ⌜ now (sizes .exit) ≡ map natAbs (now (amounts .entry)) ++ drop (length (now (amounts .entry))) (now (sizes .entry)) ⌝ }
+{
+    let mut i = 0;
+    while i < amounts.len() {
+        sizes[i] = numbers::size(amounts[i]);
+        i += 1;
+    }
+}
+
+// Each amount of `more` added to that of `amounts` at its place; later ones stay.
+pub fn add_amounts(amounts: &mut [i64], more: &[i64])
+    requires { ⌜ (length (now more) ≤ length (now amounts)) × ((i : ℕ) → Within ROOM (atZ (now amounts) i)) × ((i : ℕ) → Within ROOM (atZ (now more) i)) ⌝ }
+    ensures { λ _. ⌜ now (amounts .exit) ≡ table (λ i. atZ (now (amounts .entry)) i +ℤ atZ (now (more .entry)) i) (length (now (more .entry))) ++ drop (length (now (more .entry))) (now (amounts .entry)) ⌝ }
+{
+    let mut i = 0;
+    while i < more.len() {
+        amounts[i] = numbers::plus(amounts[i], more[i]);
+        i += 1;
+    }
+}
+
+// Refusal 11: whether a weight is negative.
+pub fn any_negative(amounts: &[i64]) -> bool
+    ensures { λ r. ⌜ r ≡ negative (now (amounts .entry)) ⌝ }
+{
+    let mut i = 0;
+    while i < amounts.len() {
+        if numbers::is_negative(amounts[i]) {
+            return true;
+        }
+        i += 1;
+    }
+    false
+}
+
+// Whether every amount is at most the limit in size.
+pub fn all_limited(amounts: &[i64]) -> bool
+    ensures { λ r. ⌜ r ≡ every (no-more AMOUNT) (now (amounts .entry)) ⌝ }
+{
+    let mut i = 0;
+    while i < amounts.len() {
+        if !numbers::size_at_most(amounts[i], AMOUNT) {
+            return false;
+        }
+        i += 1;
+    }
+    true
+}
+
+// An amount prorated over users by the sizes of these amounts, with room for keys and weights; later shares stay.
+fn share_by(
+    amount: i64,
+    users: &[u16],
+    amounts: &[i64],
+    keys: &mut [u64],
+    weights: &mut [u64],
+    shares: &mut [i64],
+)
+    requires { ⌜ Within LIMIT amount × (0 < length (now users)) × (length (now users) ≤ USERS) × (length (now amounts) ≡ length (now users)) × ((i : ℕ) → Within AMOUNT (atZ (now amounts) i)) ⌝ }
+    requires { ⌜ (length (now keys) ≡ length (now users)) × (length (now weights) ≡ length (now users)) × (length (now users) ≤ length (now shares)) ⌝ }
+    ensures { λ _. ⌜ now (shares .exit) ≡ prorateZ amount (map natAbs (now (amounts .entry))) (now (users .entry)) ++ drop (length (now (users .entry))) (now (shares .entry)) ⌝ }
+{
+    keys_of(users, keys);
+    sizes_of(amounts, weights);
+    let whole = proration::weight_total(weights);
+    proration::prorate_signed(amount, weights, whole, keys, shares);
+}
+
+// An amount prorated over users by the sizes of these amounts; later shares stay.
+pub fn share_out(amount: i64, users: &[u16], amounts: &[i64], shares: &mut [i64])
+    requires { ⌜ Within LIMIT amount × (0 < length (now users)) × (length (now users) ≤ USERS) × (length (now amounts) ≡ length (now users)) × ((i : ℕ) → Within AMOUNT (atZ (now amounts) i)) ⌝ }
+    requires { ⌜ length (now users) ≤ length (now shares) ⌝ }
+    ensures { λ _. ⌜ now (shares .exit) ≡ prorateZ amount (map natAbs (now (amounts .entry))) (now (users .entry)) ++ drop (length (now (users .entry))) (now (shares .entry)) ⌝ }
+{
+    let n = users.len();
+    let mut keys = column();
+    let mut weights = column();
+    share_by(
+        amount,
+        users,
+        amounts,
+        &mut keys[..n],
+        &mut weights[..n],
+        shares,
+    );
+}

@@ -1,0 +1,5 @@
+pub mod Padding
+pub mod Joins
+pub mod Lining
+pub mod Measures
+pub mod Cells

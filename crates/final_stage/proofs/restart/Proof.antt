@@ -1,0 +1,14 @@
+-- `final_stage::restart` meets its contract. Assumes nothing.
+use borrow.Author.Needs.{needs}
+use Rattle.final_stage.proofs.restart.Statement.{statement}
+use Rattle.final_stage.proofs.restart.Tie as tie
+
+next-stage-requires : tie.Need-next-stage-requires
+next-stage-requires c κs = search needs
+
+returns : tie.Need-returns
+returns c = rw (c .before .next-stage .ensures)
+
+pub restart-spec : {M : Type 1} → statement M
+restart-spec =
+    tie.close (tie.spec next-stage-requires returns)

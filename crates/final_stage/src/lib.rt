@@ -1,0 +1,90 @@
+ghost use mathlib.Core.Path.{_≡_};
+ghost use mathlib.Core.Bool.{not};
+ghost use Rattle.numbers.specs.Lists.{either};
+ghost use Rattle.point_day.specs.Day.{last-stage, next};
+ghost use Rattle.point_day.specs.Calls.{refused, start-final};
+ghost use Rattle.point_day.specs.Answers.{start-final-answer};
+ghost use Rattle.point_day.specs.Struct.{outcome, called};
+ghost use Rattle.final_stage.specs.Writes.{restarted};
+use point_day::CELLS;
+use point_day::PointDay;
+use point_day::Stage;
+use point_day::StartFinalAnswer;
+use point_day::StartFinalResult;
+use point_day::USERS;
+
+fn refuse(number: u8, day: PointDay) -> StartFinalResult
+    ensures { λ r. ⌜ outcome (start-final-answer (r .answer)) (r .day) ≡ outcome (refused number) day ⌝ }
+{
+    StartFinalResult {
+        answer: StartFinalAnswer::Refused(number),
+        day: day,
+    }
+}
+
+// Whether the stage is the last.
+fn is_last(stage: Stage) -> bool
+    ensures { λ r. ⌜ r ≡ last-stage stage ⌝ }
+{
+    match stage {
+        Stage::Provisional => false,
+        Stage::FinalProvisional => false,
+        Stage::FinalDefinitive => true,
+    }
+}
+
+// The stage after a stage.
+fn next_stage(stage: Stage) -> Stage
+    ensures { λ r. ⌜ r ≡ next stage ⌝ }
+{
+    match stage {
+        Stage::Provisional => Stage::FinalProvisional,
+        Stage::FinalProvisional => Stage::FinalDefinitive,
+        Stage::FinalDefinitive => Stage::FinalDefinitive,
+    }
+}
+
+// Whether no final stage can start: entering, or in the last stage.
+fn cannot_start(allotted: bool, stage: Stage) -> bool
+    ensures { λ r. ⌜ r ≡ either (not allotted) (last-stage stage) ⌝ }
+{
+    if allotted {
+        return is_last(stage);
+    }
+    true
+}
+
+// The next stage, entering: users and measurement stay, all else is zero.
+fn restart(day: PointDay) -> PointDay
+    ensures { λ r. ⌜ r ≡ restarted day ⌝ }
+{
+    let before = day.stage;
+    let stage = next_stage(before);
+    PointDay {
+        stage: stage,
+        allotted: false,
+        consumption: [0; CELLS],
+        losses: [0; CELLS],
+        balance: [0; CELLS],
+        revision: [0; USERS],
+        ..day
+    }
+}
+
+// Start-final: the next stage, entering.
+pub fn start_final(day: PointDay) -> StartFinalResult
+    ensures { λ r. ⌜ outcome (start-final-answer (r .answer)) (r .day) ≡ called start-final day ⌝ }
+{
+    if !state::is_taken(day) {
+        return refuse(2, day);
+    }
+    let stage = day.stage;
+    if cannot_start(day.allotted, stage) {
+        return refuse(1, day);
+    }
+    let next = restart(day);
+    StartFinalResult {
+        answer: StartFinalAnswer::Done,
+        day: next,
+    }
+}

@@ -1,0 +1,55 @@
+-- `replay::input::take_users` is safe and ends. Assumes nothing.
+use Prim.Native.Nat.{_-_, _≤_}
+use borrow.Author.Needs.{needs}
+use native.Mathlib.Omega.{arith}
+use Rattle.replay.proofs.input.take_users.Statement.{statement}
+use Rattle.replay.proofs.input.take_users.Tie as tie
+
+abbrev Inv-loop : tie.InvT-loop
+Inv-loop input users₀ next₀ i₀ users next i = i ≤ 64
+
+abbrev μ-loop : tie.MeasureT-loop
+μ-loop input users₀ next₀ i₀ users next i = 64 - i
+
+loop-holds : tie.Need-loop-holds Inv-loop μ-loop
+loop-holds c = search needs
+
+take-number-requires : tie.Need-take-number-requires Inv-loop μ-loop
+take-number-requires c κs = search needs
+
+cast-users : tie.Need-cast-users Inv-loop μ-loop
+cast-users c = search needs
+
+mul-users : tie.Need-mul-users Inv-loop μ-loop
+mul-users c = search needs
+
+element-write-users : tie.Need-element-write-users Inv-loop μ-loop
+element-write-users c = search needs
+
+add-i : tie.Need-add-i Inv-loop μ-loop
+add-i c = search needs
+
+loop-less : tie.Need-loop-less Inv-loop μ-loop
+loop-less c = search needs
+
+loop-again : tie.Need-loop-again Inv-loop μ-loop
+loop-again c = search needs
+
+returns : tie.Need-returns Inv-loop μ-loop
+returns c = search needs
+
+pub take-users-spec : {M : Type 1} → statement M
+take-users-spec =
+    tie.close
+    (tie.spec
+    Inv-loop
+    μ-loop
+    loop-holds
+    take-number-requires
+    cast-users
+    mul-users
+    element-write-users
+    add-i
+    loop-less
+    loop-again
+    returns)

@@ -1,0 +1,115 @@
+-- `replay::take_row` is safe and ends. Assumes nothing.
+use Prim.Native.Nat.{_-_, _≤_}
+use borrow.Author.Needs.{needs}
+use native.Mathlib.Omega.{arith}
+use Rattle.replay.proofs.take_row.Statement.{statement}
+use Rattle.replay.proofs.take_row.Tie as tie
+
+abbrev Inv-loop : tie.InvT-loop
+Inv-loop s i count filled₀ next₀ j₀ filled next j = (j ≤ 64) × (j ≤ count)
+
+abbrev μ-loop : tie.MeasureT-loop
+μ-loop s i count filled₀ next₀ j₀ filled next j = 64 - j
+
+take-number-requires : tie.Need-take-number-requires Inv-loop μ-loop
+take-number-requires c κs = search needs
+
+mul-filled : tie.Need-mul-filled Inv-loop μ-loop
+mul-filled c = search needs
+
+element-write-filled : tie.Need-element-write-filled Inv-loop μ-loop
+element-write-filled c = search needs
+
+loop-holds : tie.Need-loop-holds Inv-loop μ-loop
+loop-holds c = search needs
+
+returns : tie.Need-returns Inv-loop μ-loop
+returns c = search needs
+
+take-number-requires-2 : tie.Need-take-number-requires-2 Inv-loop μ-loop
+take-number-requires-2 c κs = search needs
+
+take-number-requires-3 : tie.Need-take-number-requires-3 Inv-loop μ-loop
+take-number-requires-3 c κs = search needs
+
+cast-filled : tie.Need-cast-filled Inv-loop μ-loop
+cast-filled c = search needs
+
+mul-filled-2 : tie.Need-mul-filled-2 Inv-loop μ-loop
+mul-filled-2 c = search needs
+
+add-filled : tie.Need-add-filled Inv-loop μ-loop
+add-filled c = search needs
+
+mul-filled-3 : tie.Need-mul-filled-3 Inv-loop μ-loop
+mul-filled-3 c = search needs
+
+element-write-filled-2 : tie.Need-element-write-filled-2 Inv-loop μ-loop
+element-write-filled-2 c = search needs
+
+to-signed-requires : tie.Need-to-signed-requires Inv-loop μ-loop
+to-signed-requires c κs = search needs
+
+mul-t21 : tie.Need-mul-t21 Inv-loop μ-loop
+mul-t21 c = search needs
+
+add-t23 : tie.Need-add-t23 Inv-loop μ-loop
+add-t23 c = search needs
+
+mul-t22 : tie.Need-mul-t22 Inv-loop μ-loop
+mul-t22 c = search needs
+
+element-set-from-filled : tie.Need-element-set-from-filled Inv-loop μ-loop
+element-set-from-filled c = search needs
+
+add-j : tie.Need-add-j Inv-loop μ-loop
+add-j c = search needs
+
+loop-less : tie.Need-loop-less Inv-loop μ-loop
+loop-less c = search needs
+
+loop-again : tie.Need-loop-again Inv-loop μ-loop
+loop-again c = search needs
+
+sub-pass : tie.Need-sub-pass Inv-loop μ-loop
+sub-pass c = search needs
+
+mul-pass : tie.Need-mul-pass Inv-loop μ-loop
+mul-pass c = search needs
+
+pass-requires : tie.Need-pass-requires Inv-loop μ-loop
+pass-requires c κs = search needs
+
+returns-2 : tie.Need-returns-2 Inv-loop μ-loop
+returns-2 c = search needs
+
+pub take-row-spec : {M : Type 1} → statement M
+take-row-spec =
+    tie.close
+    (tie.spec
+    Inv-loop
+    μ-loop
+    take-number-requires
+    mul-filled
+    element-write-filled
+    loop-holds
+    returns
+    take-number-requires-2
+    take-number-requires-3
+    cast-filled
+    mul-filled-2
+    add-filled
+    mul-filled-3
+    element-write-filled-2
+    to-signed-requires
+    mul-t21
+    add-t23
+    mul-t22
+    element-set-from-filled
+    add-j
+    loop-less
+    loop-again
+    sub-pass
+    mul-pass
+    pass-requires
+    returns-2)

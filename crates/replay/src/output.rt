@@ -1,0 +1,38 @@
+// Lines of text.
+use libc::STDOUT_FILENO;
+
+pub fn text(bytes: &[u8]) {
+    io::write_all(STDOUT_FILENO, bytes);
+}
+
+// A space and a number.
+pub fn amount(x: i64) {
+    text(b" ");
+    if x < 0 {
+        text(b"-");
+    }
+    io::print_decimal(STDOUT_FILENO, wire::magnitude(x));
+}
+
+pub fn number(n: u64) {
+    text(b" ");
+    io::print_decimal(STDOUT_FILENO, n);
+}
+
+pub fn user(n: u16) {
+    number(n as u64);
+}
+
+pub fn end() {
+    text(b"\n");
+}
+
+pub fn malformed() {
+    text(b"malformed\n");
+}
+
+pub fn refused(n: u8) {
+    text(b"refused");
+    number(n as u64);
+    end();
+}

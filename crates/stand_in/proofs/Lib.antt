@@ -1,0 +1,4 @@
+pub mod Rising
+pub mod Rows
+pub mod Opening
+pub mod Standing

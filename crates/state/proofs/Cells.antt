@@ -1,0 +1,107 @@
+-- Amounts place by place, against tests of every element; sums of amounts that are not negative. Assumes nothing.
+use mathlib.Core.Path.{_≡_, refl, sym, ap, _∙_}
+use mathlib.Core.Bool.{Bool, true, false}
+use mathlib.Core.List.{List, [], _∷_, map}
+use mathlib.Core.Logic.{⊎-elim}
+use Prim.Native.Nat.{ℕ, zero, suc, _+_, _-_, _*_, _≤_, _<_}
+use native.Mathlib.Omega.{arith}
+use native.Mathlib.Nat.{suc-mul}
+use lib.IntN.{ℤ, pos, negsuc, negℤ, natAbs}
+use lib.Signed.{ltZ, leZ}
+use lib.ListN.{length, getD, drop, length-drop, List·getD-eq-default}
+use lib.Seq.{getD-drop}
+use borrow.Author.Tests.{eqb-true, eq-eqb, leb-true, leb-false, ltb-false, le-ltb}
+use Rattle.numbers.specs.Sums.{atZ, total, totalZ}
+use Rattle.numbers.specs.Lists.{every}
+use Rattle.numbers.specs.Amounts.{Within, Between, Decides, is-negative}
+use Rattle.numbers.proofs.Sums.{lt-or-ge}
+use Rattle.numbers.proofs.Lists.{All, true≢false, both-fst, both-snd, both-true}
+use Rattle.numbers.proofs.Amounts.{NonNeg, sum-nonneg, between}
+use Rattle.point_day.specs.Limits.{AMOUNT}
+use Rattle.point_day.specs.Day.{is-zero}
+use Rattle.state.specs.Places.{From}
+
+-- ---- every place, and every element
+
+module _ {A : Type 0} (p : A → Bool) (x : A) where
+  pub every-at : (xs : List A) → every p xs ≡ true → (i : ℕ) → i < length xs → p (getD xs i x) ≡ true
+  unfolding every
+  every-at [] e i l = absurd (omega arith)
+  every-at (y ∷ xs) e zero l = both-fst (p y) _ e
+  every-at (y ∷ xs) e (suc i) l = every-at xs (both-snd (p y) _ e) i (omega arith)
+
+  pub at-every : (xs : List A) → ((i : ℕ) → i < length xs → p (getD xs i x) ≡ true) → every p xs ≡ true
+  unfolding every
+  at-every [] h = refl
+  at-every (y ∷ xs) h = both-true {p = p y} (h 0 (omega arith)) (at-every xs (λ i l. h (suc i) (omega arith)))
+
+  pub every-from : (n : ℕ) (xs : List A) → every p (drop n xs) ≡ true → (i : ℕ) → n ≤ i → i < length xs → p (getD xs i x) ≡ true
+  every-from n xs e i l m =
+      let q : n + (i - n) ≡ i = omega arith in
+      ap p (ap (λ k. getD xs k x) (sym q) ∙ sym (getD-drop n xs (i - n) x)) ∙ every-at (drop n xs) e (i - n) (omega (arith, length-drop n xs))
+
+  pub from-every : (n : ℕ) (xs : List A) → ((i : ℕ) → n ≤ i → i < length xs → p (getD xs i x) ≡ true) → every p (drop n xs) ≡ true
+  from-every n xs h = at-every (drop n xs) (λ i l. ap p (getD-drop n xs i x) ∙ h (n + i) (omega arith) (omega (arith, length-drop n xs)))
+
+-- ---- ranges of an amount
+
+pub zero-between : (z : ℤ) → is-zero z ≡ true → Between (pos 0) (pos 0) z
+zero-between (pos zero) e = record { above = refl; below = refl }
+zero-between (pos (suc n)) e = absurd (omega (arith, eqb-true (suc n) 0 e))
+zero-between (negsuc n) e = absurd (omega (arith, eqb-true (suc n) 0 e))
+
+pub between-zero : (z : ℤ) → Between (pos 0) (pos 0) z → is-zero z ≡ true
+between-zero (pos n) h = eq-eqb n 0 (omega (arith, ltb-false 0 n (h .below)))
+between-zero (negsuc n) h = true≢false (h .above)
+
+pub between-sign : {m : ℕ} (z : ℤ) → Between (pos 0) (pos m) z → is-negative z ≡ false
+between-sign (pos n) h = refl
+between-sign (negsuc n) h = true≢false (h .above)
+
+pub low-size : (m : ℕ) (z : ℤ) → Between (pos 0) (pos m) z → natAbs z ≤ m
+low-size m (pos n) h = ltb-false m n (h .below)
+low-size m (negsuc n) h = true≢false (h .above)
+
+pub nonneg-between : (m : ℕ) (z : ℤ) → is-negative z ≡ false → natAbs z ≤ m → Between (pos 0) (pos m) z
+nonneg-between m (pos n) e l = record { above = le-ltb n 0 (omega arith); below = le-ltb m n l }
+nonneg-between m (negsuc n) e l = true≢false e
+
+pub between-size : (z : ℤ) → Between (negℤ (pos AMOUNT)) (pos AMOUNT) z → natAbs z ≤ AMOUNT
+between-size z h = between z 1999999999 (h .above) (h .below)
+
+pub size-between : (z : ℤ) → natAbs z ≤ AMOUNT → Between (negℤ (pos AMOUNT)) (pos AMOUNT) z
+size-between (pos n) l = record { above = refl; below = le-ltb AMOUNT n l }
+size-between (negsuc n) l = record { above = le-ltb 1999999999 n (omega arith); below = refl }
+
+-- ---- every place of an array, past its end too
+
+pub within-from : (m : ℕ) (xs : List ℤ) → ((i : ℕ) → 0 ≤ i → i < length xs → natAbs (atZ xs i) ≤ m) → (k : ℕ) → m ≤ k → (i : ℕ) → Within k (atZ xs i)
+within-from m xs h k l i = record {
+  size = ⊎-elim (λ q. omega (arith, h i (omega arith) q)) (λ q. rw (List·getD-eq-default xs (pos 0) {n = i} q) (omega arith)) (lt-or-ge i (length xs));
+}
+
+pub low-from : (m : ℕ) (xs : List ℤ) → From 0 (pos 0) (pos m) xs → (k : ℕ) → m ≤ k → (i : ℕ) → Within k (atZ xs i)
+low-from m xs h k l i = within-from m xs (λ i n q. low-size m (atZ xs i) (h i n q)) k l i
+
+-- ---- the sum of amounts that are not negative
+
+signs : (m : ℕ) (xs : List ℤ) → From 0 (pos 0) (pos m) xs → All NonNeg xs
+signs m [] h = tt
+signs m (x ∷ xs) h = (between-sign x (h 0 (omega arith) (omega arith)), signs m xs (λ i l q. h (suc i) (omega arith) (omega arith)))
+
+pub nonneg-total : (m : ℕ) (xs : List ℤ) → From 0 (pos 0) (pos m) xs → totalZ xs ≡ pos (total (map natAbs xs))
+nonneg-total m xs h = sum-nonneg xs (signs m xs h)
+
+pub total-le : (m : ℕ) (xs : List ℤ) → From 0 (pos 0) (pos m) xs → total (map natAbs xs) ≤ length xs * m
+unfolding total
+total-le m [] h = omega arith
+total-le m (x ∷ xs) h =
+    omega (arith, low-size m x (h 0 (omega arith) (omega arith)), total-le m xs (λ i l q. h (suc i) (omega arith) (omega arith)), suc-mul (length xs) m)
+
+-- an amount that is not negative is at most m
+pub at-most : (m : ℕ) (z : ℤ) → ltZ z (pos 0) ≡ false → Decides (leZ z (pos m)) (Between (pos 0) (pos m) z)
+at-most m (pos n) e = record {
+  yes = λ q. record { above = e; below = le-ltb m n (leb-true n m q) };
+  no = λ q P. omega (arith, leb-false n m q, ltb-false m n (P .below));
+}
+at-most m (negsuc n) e = true≢false e

@@ -1,0 +1,5 @@
+pub mod Ranges
+pub mod Numbers
+pub mod Cells
+pub mod Totals
+pub mod Facts
