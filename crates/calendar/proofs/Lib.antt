@@ -1,0 +1,3 @@
+pub mod Holidays
+pub mod Months
+pub mod Masks

@@ -1,0 +1,4 @@
+pub mod Answers
+pub mod Days
+pub mod Months
+pub mod Calls

@@ -1,0 +1,4 @@
+pub mod Degrees
+pub mod Lists
+pub mod Winters
+pub mod Zones

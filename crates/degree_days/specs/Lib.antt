@@ -1,0 +1,4 @@
+pub mod Degrees
+pub mod Temperature
+pub mod Zones
+pub mod Examples

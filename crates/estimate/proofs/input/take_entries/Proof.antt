@@ -1,0 +1,61 @@
+-- `estimate::input::take_entries` meets its contract. It is safe and ends: `i` rises to the count, and the array keeps its length. Assumes nothing.
+use mathlib.Core.Path.{_≡_}
+use Prim.Native.Nat.{_-_, _≤_}
+use native.Mathlib.Omega.{arith}
+use lib.ListN.{length, length-set}
+use borrow.Author.Needs.{needs}
+use Rattle.estimate.proofs.input.take_entries.Statement.{statement}
+use Rattle.estimate.proofs.input.take_entries.Tie as tie
+
+abbrev Inv-loop : tie.InvT-loop
+Inv-loop input count kept₀ next₀ i₀ kept next i = (i ≤ count) × (length kept ≡ 400)
+
+abbrev μ-loop : tie.MeasureT-loop
+μ-loop input count kept₀ next₀ i₀ kept next i = count - i
+
+loop-holds : tie.Need-loop-holds Inv-loop μ-loop
+loop-holds c = (omega arith, search needs)
+
+take-tag-requires : tie.Need-take-tag-requires Inv-loop μ-loop
+take-tag-requires c κs = search needs
+
+take-number-requires : tie.Need-take-number-requires Inv-loop μ-loop
+take-number-requires c κs = search needs
+
+reading-requires : tie.Need-reading-requires Inv-loop μ-loop
+reading-requires c κs = search needs
+
+mul-kept : tie.Need-mul-kept Inv-loop μ-loop
+mul-kept c = search needs
+
+array-set-from-kept : tie.Need-array-set-from-kept Inv-loop μ-loop
+array-set-from-kept c = search needs
+
+add-i : tie.Need-add-i Inv-loop μ-loop
+add-i c = search needs
+
+loop-less : tie.Need-loop-less Inv-loop μ-loop
+loop-less c = search needs
+
+loop-again : tie.Need-loop-again Inv-loop μ-loop
+loop-again c = (omega arith, simp length-set (c .before .before .before .before .before .loop .inv .1))
+
+returns : tie.Need-returns Inv-loop μ-loop
+returns c = search needs
+
+pub take-entries-spec : {M : Type 1} → statement M
+take-entries-spec =
+    tie.close
+    (tie.spec
+    Inv-loop
+    μ-loop
+    loop-holds
+    take-tag-requires
+    take-number-requires
+    reading-requires
+    mul-kept
+    array-set-from-kept
+    add-i
+    loop-less
+    loop-again
+    returns)

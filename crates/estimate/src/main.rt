@@ -1,0 +1,399 @@
+// Runs the calls on supply points and on the calendar with cases from standard input.
+mod input;
+mod output;
+
+use calendar::DayType;
+use calendar::DayTypeAnswer;
+use calendar::MonthAnswer;
+use degree_days::DegreeDays;
+use degree_days::ProvinceAnswer;
+use degree_days::ZoneAnswer;
+use input::Cursor;
+use libc::STDIN_FILENO;
+use supply::Amount;
+use supply::ConsumptionAnswer;
+use supply::Flows;
+use supply::OwnValue;
+use supply::ProfileAnswer;
+use supply::TelemeteredAnswer;
+use supply::Toll;
+
+// The most bytes of input.
+const MOST_INPUT: usize = 1048576;
+
+// The most lists of winters that are read.
+const MOST_WINTERS: u64 = 8;
+
+// ---- telemetered
+
+fn own_value(amount: Amount) -> OwnValue {
+    match amount {
+        Amount::Missing => OwnValue::NotSent,
+        Amount::Known(v) => OwnValue::Sent(v),
+    }
+}
+
+fn toll(flag: u64) -> Toll {
+    if flag == 1 {
+        Toll::Toll34
+    } else {
+        Toll::OtherToll
+    }
+}
+
+fn print_telemetered(answer: TelemeteredAnswer) {
+    match answer {
+        TelemeteredAnswer::Refused(n) => output::refused(n),
+        TelemeteredAnswer::Consumption { kwh, looked } => {
+            output::two(b"telemetered", kwh, looked as u64)
+        }
+    }
+}
+
+// Contracted flows and the next place.
+struct TakenFlows {
+    flows: Flows,
+    next: Cursor,
+}
+
+fn take_flows(s: &[u8], from: Cursor) -> TakenFlows {
+    let kind = input::take_flag(s, from);
+    let of_year = input::take_optional(s, kind.next);
+    let of_day = input::take_optional(s, of_year.next);
+    let factor = input::take_word(s, of_day.next);
+    let toll = toll(kind.value);
+    let year = of_year.amount;
+    let day = of_day.amount;
+    let flows = Flows {
+        toll,
+        year,
+        day,
+        factor: factor.value,
+    };
+    let next = factor.next;
+    TakenFlows { flows, next }
+}
+
+fn telemetered(s: &[u8], from: Cursor) -> Cursor {
+    let day = input::take_word(s, from);
+    let mut days = [0u32; 4000];
+    let holidays = input::take_list(s, day.next, 2, &mut days);
+    let n = holidays.count;
+    let reading = input::take_optional(s, holidays.next);
+    let own = input::take_optional(s, reading.next);
+    let flows = take_flows(s, own.next);
+    let entries = input::take_number(s, flows.next, 2);
+    let count = (entries.value % 65536) as usize;
+    let history = input::take_history(s, entries.next, count);
+    let next = history.next;
+    if next.ok {
+        let read = reading.amount;
+        let own_amount = own.amount;
+        let sent = own_value(own_amount);
+        let list = history.entries;
+        let answer = supply::metering::telemetered(
+            day.value,
+            &days[..n],
+            read,
+            sent,
+            flows.flows,
+            list,
+            count,
+        );
+        print_telemetered(answer);
+    }
+    next
+}
+
+// ---- Type 1 and Type 2
+
+fn print_consumption(name: &[u8], answer: ConsumptionAnswer) {
+    match answer {
+        ConsumptionAnswer::Refused(n) => output::refused(n),
+        ConsumptionAnswer::Kwh(kwh) => output::one(name, kwh),
+    }
+}
+
+fn toll_34(s: &[u8], from: Cursor) -> Cursor {
+    let day = input::take_word(s, from);
+    let last_year = input::take_optional(s, day.next);
+    let g = input::take_word(s, last_year.next);
+    let mut days = [0u32; 255];
+    let last_days = input::take_list(s, g.next, 1, &mut days);
+    let n = last_days.count;
+    let last_month = input::take_optional(s, last_days.next);
+    let year = input::take_optional(s, last_month.next);
+    let next = year.next;
+    if next.ok {
+        let last = last_year.amount;
+        let month = last_month.amount;
+        let flow = year.amount;
+        let answer = supply::months::toll_34(day.value, last, g.value, &days[..n], month, flow);
+        print_consumption(b"type1", answer);
+    }
+    next
+}
+
+fn other_toll(s: &[u8], from: Cursor) -> Cursor {
+    let day = input::take_word(s, from);
+    let mut days = [0u32; 4000];
+    let holidays = input::take_list(s, day.next, 2, &mut days);
+    let n = holidays.count;
+    let last_year = input::take_optional(s, holidays.next);
+    let c_c = input::take_word(s, last_year.next);
+    let last_month = input::take_optional(s, c_c.next);
+    let flow = input::take_optional(s, last_month.next);
+    let f_c = input::take_word(s, flow.next);
+    let c_f = input::take_word(s, f_c.next);
+    let next = c_f.next;
+    if next.ok {
+        let last = last_year.amount;
+        let month = last_month.amount;
+        let daily = flow.amount;
+        let answer = supply::months::other_toll(
+            day.value,
+            &days[..n],
+            last,
+            c_c.value,
+            month,
+            daily,
+            f_c.value,
+            c_f.value,
+        );
+        print_consumption(b"type1", answer);
+    }
+    next
+}
+
+// Passes over the lists of winters past the second.
+fn pass_winters(s: &[u8], from: Cursor, winters: u64) -> Cursor {
+    let mut next = from;
+    let mut i: u64 = 2;
+    while i < winters {
+        next = input::pass_list(s, next);
+        i += 1;
+    }
+    next
+}
+
+fn type_2(s: &[u8], from: Cursor) -> Cursor {
+    let consumers = input::take_word(s, from);
+    let profile = input::take_number(s, consumers.next, 8);
+    let g = input::take_word(s, profile.next);
+    let winters = input::take_number(s, g.next, 1);
+    let mut first = [0u32; 255];
+    let mut second = [0u32; 255];
+    let one = input::take_winter(s, winters.next, 0 < winters.value, &mut first);
+    let m = one.count;
+    let two = input::take_winter(s, one.next, 1 < winters.value, &mut second);
+    let n = two.count;
+    let next = pass_winters(s, two.next, winters.value);
+    if MOST_WINTERS < winters.value {
+        return input::failed(next.at);
+    }
+    if next.ok {
+        let k = (winters.value % 256) as u8;
+        let answer = supply::profiles::type_2(
+            consumers.value,
+            profile.value,
+            g.value,
+            k,
+            &first[..m],
+            &second[..n],
+        );
+        print_consumption(b"type2", answer);
+    }
+    next
+}
+
+fn print_profile(answer: ProfileAnswer) {
+    match answer {
+        ProfileAnswer::Refused(n) => output::refused(n),
+        ProfileAnswer::Wh(wh) => output::one(b"profile", wh),
+    }
+}
+
+fn profile(s: &[u8], from: Cursor) -> Cursor {
+    let f1 = input::take_number(s, from, 8);
+    let f2 = input::take_number(s, f1.next, 8);
+    let nc1 = input::take_word(s, f2.next);
+    let nc2 = input::take_word(s, nc1.next);
+    let n1 = input::take_word(s, nc2.next);
+    let n2 = input::take_word(s, n1.next);
+    let next = n2.next;
+    if next.ok {
+        print_profile(supply::profiles::profile(
+            f1.value,
+            f2.value,
+            nc1.value,
+            nc2.value,
+            n1.value,
+            n2.value,
+        ));
+    }
+    next
+}
+
+// ---- degree days, zones and provinces
+
+fn print_degree_days(answer: DegreeDays) {
+    match answer {
+        DegreeDays::Refused(n) => output::refused(n),
+        DegreeDays::Fortieths(d) => output::one(b"degree-days", d),
+    }
+}
+
+fn degree_days(s: &[u8], from: Cursor) -> Cursor {
+    let tmin = input::take_word(s, from);
+    let tmax = input::take_word(s, tmin.next);
+    let next = tmax.next;
+    if next.ok {
+        print_degree_days(degree_days::degree_days(
+            input::signed(tmin.value),
+            input::signed(tmax.value),
+        ));
+    }
+    next
+}
+
+fn print_zone(answer: ZoneAnswer) {
+    match answer {
+        ZoneAnswer::Refused(n) => output::refused(n),
+        ZoneAnswer::Zone(z) => output::one(b"zone", z as u64),
+    }
+}
+
+fn zone(s: &[u8], from: Cursor) -> Cursor {
+    let hundredths = input::take_word(s, from);
+    let next = hundredths.next;
+    if next.ok {
+        print_zone(degree_days::zone_of(hundredths.value));
+    }
+    next
+}
+
+fn print_province(answer: ProvinceAnswer) {
+    match answer {
+        ProvinceAnswer::Refused(n) => output::refused(n),
+        ProvinceAnswer::Of { value, zone } => output::two(b"province", value as u64, zone as u64),
+    }
+}
+
+fn province(s: &[u8], from: Cursor) -> Cursor {
+    let number = input::take_word(s, from);
+    let next = number.next;
+    if next.ok {
+        print_province(degree_days::province_of(number.value));
+    }
+    next
+}
+
+// ---- calendar
+
+fn print_day_type(answer: DayTypeAnswer) {
+    match answer {
+        DayTypeAnswer::Refused(n) => output::refused(n),
+        DayTypeAnswer::Is(t) => match t {
+            DayType::Working => output::text(b"day-type working\n"),
+            DayType::Saturday => output::text(b"day-type saturday\n"),
+            DayType::SundayOrHoliday => output::text(b"day-type sunday\n"),
+        },
+    }
+}
+
+fn day_type(s: &[u8], from: Cursor) -> Cursor {
+    let day = input::take_word(s, from);
+    let mut days = [0u32; 4000];
+    let holidays = input::take_list(s, day.next, 2, &mut days);
+    let n = holidays.count;
+    let next = holidays.next;
+    if next.ok {
+        print_day_type(calendar::day_type(day.value, &days[..n]));
+    }
+    next
+}
+
+fn print_month(answer: MonthAnswer) {
+    match answer {
+        MonthAnswer::Refused(n) => output::refused(n),
+        MonthAnswer::Of {
+            first,
+            days,
+            mask,
+            working,
+        } => {
+            output::text(b"month");
+            output::number(first as u64);
+            output::number(days as u64);
+            output::number(mask as u64);
+            output::number(working as u64);
+            output::end();
+        }
+    }
+}
+
+fn month(s: &[u8], from: Cursor) -> Cursor {
+    let day = input::take_word(s, from);
+    let mut days = [0u32; 4000];
+    let holidays = input::take_list(s, day.next, 2, &mut days);
+    let n = holidays.count;
+    let next = holidays.next;
+    if next.ok {
+        print_month(calendar::month_figures(day.value, &days[..n]));
+    }
+    next
+}
+
+// ---- the run
+
+// One operation: its byte and its arguments.
+fn step(s: &[u8], from: Cursor) -> Cursor {
+    let operation = input::take_number(s, from, 1);
+    let next = operation.next;
+    let byte = operation.value;
+    match byte {
+        1 => telemetered(s, next),
+        2 => toll_34(s, next),
+        3 => other_toll(s, next),
+        4 => type_2(s, next),
+        5 => profile(s, next),
+        6 => degree_days(s, next),
+        7 => zone(s, next),
+        8 => province(s, next),
+        10 => day_type(s, next),
+        11 => month(s, next),
+        _ => input::failed(next.at),
+    }
+}
+
+// The operations one after the other, each at least one byte long.
+fn run(s: &[u8]) {
+    let mut cursor = Cursor { at: 0, ok: true };
+    let mut turns = s.len();
+    while 0 < turns {
+        if s.len() <= cursor.at {
+            return;
+        }
+        cursor = step(s, cursor);
+        if !cursor.ok {
+            output::malformed();
+            return;
+        }
+        turns -= 1;
+    }
+}
+
+// Room for the most bytes of input and one more. (A call, so that no proof sees its bytes one by one.)
+fn room() -> [u8; 1048577] {
+    [0u8; 1048577]
+}
+
+fn main() {
+    let mut bytes = room();
+    let n = io::read_full(STDIN_FILENO, &mut bytes);
+    if MOST_INPUT < n {
+        output::malformed();
+        return;
+    }
+    run(&bytes[..n]);
+}

@@ -1,0 +1,40 @@
+// Lines of text.
+use libc::STDOUT_FILENO;
+
+pub fn text(bytes: &[u8]) {
+    io::write_all(STDOUT_FILENO, bytes);
+}
+
+pub fn number(n: u64) {
+    text(b" ");
+    io::print_decimal(STDOUT_FILENO, n);
+}
+
+pub fn end() {
+    text(b"\n");
+}
+
+pub fn malformed() {
+    text(b"malformed\n");
+}
+
+pub fn refused(n: u8) {
+    text(b"refused");
+    number(n as u64);
+    end();
+}
+
+// A name and a number.
+pub fn one(name: &[u8], n: u64) {
+    text(name);
+    number(n);
+    end();
+}
+
+// A name and two numbers.
+pub fn two(name: &[u8], m: u64, n: u64) {
+    text(name);
+    number(m);
+    number(n);
+    end();
+}
