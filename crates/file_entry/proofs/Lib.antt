@@ -1,0 +1,5 @@
+pub mod Taking
+pub mod Entries
+pub mod LineEntries
+pub mod Leading
+pub mod SectionEntries

@@ -1,0 +1,79 @@
+-- While a day file is entered: the point-day that lent arrays stand for, and what calls on it come to: the contracts of the functions
+-- that enter a line, a section and all sections. Assumes nothing.
+use mathlib.Core.Path.{_≡_}
+use mathlib.Core.Bool.{Bool, true, false, not}
+use mathlib.Core.List.{List, _++_}
+use Prim.Native.Nat.{ℕ, _+_}
+use lib.IntN.{ℤ, pos}
+use lib.Dec.{leb, eqb}
+use lib.ListN.{length, take, replicate}
+use Rattle.numbers.specs.Sums.{pick}
+use Rattle.numbers.specs.Lists.{both, has}
+use Rattle.point_day.specs.Limits.{USERS, CELLS}
+use Rattle.point_day.specs.Day.{all-offtake, measurement-right}
+use Rattle.point_day.specs.Calls.{line-right}
+use Rattle.point_day.specs.Struct.{read, taken}
+use Rattle.point_day.specs.declared.Stage.the-variants.{Provisional}
+use Rattle.point_day.specs.declared.Measurement.{Measurement}
+use Rattle.point_day.specs.declared.Measurement.the-variants.{Unmeasured}
+use Rattle.point_day.specs.declared.PointDay.{PointDay}
+use Rattle.entry.specs.Writes.{line-losses, past-limit, more, place}
+use Rattle.day_book.specs.Book.{Call}
+use Rattle.day_file.specs.Report.{refused, in-order}
+use Rattle.file_entry.specs.declared.Entry.{Entry}
+use Rattle.file_entry.specs.declared.Entry.the-variants.{Refused, Offtake}
+
+-- the point-day of n users, their numbers, consumption and losses, with a measurement and nothing allotted yet
+unfoldable pub entering : ℕ → List ℕ → List ℤ → List ℤ → Measurement → PointDay
+entering n us cs ls m = record {
+  stage = Provisional;
+  allotted = false;
+  measurement = m;
+  count = n;
+  users = us;
+  consumption = cs;
+  losses = ls;
+  balance = replicate CELLS (pos 0);
+  revision = replicate USERS (pos 0);
+}
+
+-- with any measurement in range it is taken, and its consumption and losses sum to `offtake`
+pub record Entered (n : ℕ) (us : List ℕ) (cs ls : List ℤ) (offtake : ℕ) : Type 0 where
+  pub users : length us ≡ USERS
+  pub consumption : length cs ≡ CELLS
+  pub losses : length ls ≡ CELLS
+  pub taken : (m : Measurement) → measurement-right m ≡ true → taken (entering n us cs ls m) ≡ true
+  pub sum : offtake ≡ all-offtake (read (entering n us cs ls Unmeasured) .users)
+
+-- what an answer promises of the offtake that it holds
+abbrev pub Unless-refused : Entry → (ℕ → Type 0) → Type 0
+Unless-refused (Refused k) P = Unit {0}
+Unless-refused (Offtake x) P = P x
+
+-- what calls come to on a point-day, whatever its measurement and the calls after them
+abbrev pub Comes-to : Entry → List Call → (Measurement → PointDay) → (Measurement → PointDay) → Type 0
+Comes-to (Refused k) calls before after = (day : ℕ) (m : Measurement) (rest : List Call) → measurement-right m ≡ true
+    → in-order day (calls ++ rest) (before m) ≡ refused k
+Comes-to (Offtake x) calls before after = (day : ℕ) (m : Measurement) (rest : List Call) → measurement-right m ≡ true
+    → in-order day (calls ++ rest) (before m) ≡ in-order day rest (after m)
+
+-- ---- a line, by its numbers
+
+abbrev pub line-entry : ℕ → ℕ → ℕ → ℕ → ℕ → Entry
+line-entry n kind c k offtake =
+    pick (line-right n kind c k) (pick (past-limit offtake c k) (Refused 6) (Offtake (offtake + (c + line-losses c k)))) (Refused 2)
+
+-- the line is added
+abbrev pub is-added : ℕ → ℕ → ℕ → ℕ → ℕ → Bool
+is-added n kind c k offtake = both (line-right n kind c k) (not (past-limit offtake c k))
+
+-- ---- a user, by the slots before
+
+-- the number of the refusal, or 0
+abbrev pub user-refusal : ℕ → ℕ → List ℕ → ℕ
+user-refusal n slot us = pick (eqb n 0) 2 (pick (has n (take slot us)) 4 (pick (leb USERS slot) 5 0))
+
+-- ---- a measured point-day without users
+
+unfoldable pub unjoined : Measurement → PointDay
+unjoined m = entering 0 (replicate USERS 0) (replicate CELLS (pos 0)) (replicate CELLS (pos 0)) m

@@ -1,0 +1,4 @@
+pub mod Rows
+pub mod Listing
+pub mod Outcomes
+pub mod Laws

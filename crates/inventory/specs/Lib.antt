@@ -1,0 +1,3 @@
+pub mod Inventory
+pub mod Laws
+pub mod Cells
