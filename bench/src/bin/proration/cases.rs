@@ -1,5 +1,7 @@
 //! Random splits of a given number of parties.
 
+use bench::Random;
+
 pub struct Case {
     pub amount: i64,
     pub weights: Vec<u64>,
@@ -38,22 +40,6 @@ impl Weights {
             Weights::HalfEqual | Weights::Equal => 123_456_789,
             Weights::Zero => 0,
         }
-    }
-}
-
-pub struct Random(u64);
-
-impl Random {
-    pub fn new(seed: u64) -> Random {
-        Random(seed)
-    }
-
-    /// Xorshift.
-    fn below(&mut self, bound: u64) -> u64 {
-        self.0 ^= self.0 << 13;
-        self.0 ^= self.0 >> 7;
-        self.0 ^= self.0 << 17;
-        self.0 % bound
     }
 }
 

@@ -5,9 +5,9 @@ mod plain;
 mod proved;
 
 use std::hint::black_box;
-use std::time::Instant;
 
-use cases::{case, Case, Random, Weights};
+use bench::Random;
+use cases::{case, Case, Weights};
 
 const PARTIES: [usize; 3] = [5, 64, 366];
 const CASES: usize = 256;
@@ -52,20 +52,15 @@ fn compare(cases: &[Case]) {
     }
 }
 
-/// Nanoseconds a split, proved and plain: the best of many short rounds, in turn, so that other work on the machine counts for little.
+/// Nanoseconds a split, proved and plain.
 fn time(cases: &[Case]) -> (f64, f64) {
-    let (mut proved, mut plain) = (f64::MAX, f64::MAX);
-    for _ in 0..ROUNDS {
-        proved = proved.min(round(cases, proved::split));
-        plain = plain.min(round(cases, plain::split));
-    }
-    (proved, plain)
+    bench::best_of(ROUNDS, cases, run(proved::split), run(plain::split))
 }
 
-fn round(cases: &[Case], split: Split) -> f64 {
-    let mut shares = vec![0; cases[0].weights.len()];
-    let start = Instant::now();
-    for case in cases {
+/// Makes a split of a case, and keeps the compiler from leaving it out.
+fn run(split: Split) -> impl FnMut(&Case) {
+    let mut shares = vec![0; PARTIES[PARTIES.len() - 1]];
+    move |case| {
         let answer = split(
             case.amount,
             black_box(&case.weights),
@@ -75,5 +70,4 @@ fn round(cases: &[Case], split: Split) -> f64 {
         black_box(answer).expect("the cases are in range");
         black_box(&mut shares);
     }
-    start.elapsed().as_nanos() as f64 / cases.len() as f64
 }

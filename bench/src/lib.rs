@@ -1,0 +1,44 @@
+//! What all benchmarks share: random numbers, and the time of a call.
+
+use std::time::Instant;
+
+/// A seeded generator.
+pub struct Random(u64);
+
+impl Random {
+    pub fn new(seed: u64) -> Random {
+        Random(seed)
+    }
+
+    /// Xorshift: a number below the bound.
+    pub fn below(&mut self, bound: u64) -> u64 {
+        self.0 ^= self.0 << 13;
+        self.0 ^= self.0 >> 7;
+        self.0 ^= self.0 << 17;
+        self.0 % bound
+    }
+}
+
+/// Nanoseconds a call, proved and plain: the best of many short rounds, in turn, so that other work on the machine counts for little.
+/// A round makes one call for each case.
+pub fn best_of<Case>(
+    rounds: usize,
+    cases: &[Case],
+    mut proved: impl FnMut(&Case),
+    mut plain: impl FnMut(&Case),
+) -> (f64, f64) {
+    let (mut best_proved, mut best_plain) = (f64::MAX, f64::MAX);
+    for _ in 0..rounds {
+        best_proved = best_proved.min(a_call(cases, &mut proved));
+        best_plain = best_plain.min(a_call(cases, &mut plain));
+    }
+    (best_proved, best_plain)
+}
+
+fn a_call<Case>(cases: &[Case], call: &mut impl FnMut(&Case)) -> f64 {
+    let start = Instant::now();
+    for case in cases {
+        call(case);
+    }
+    start.elapsed().as_nanos() as f64 / cases.len() as f64
+}
