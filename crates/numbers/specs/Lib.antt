@@ -2,3 +2,4 @@ pub mod Sums
 pub mod Lists
 pub mod Amounts
 pub mod Nearest
+pub mod Refusals

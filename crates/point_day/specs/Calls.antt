@@ -10,6 +10,8 @@ use Rattle.numbers.specs.Sums.{pick, total}
 use Rattle.numbers.specs.Lists.{both, either, every, has, rising, zip}
 use Rattle.numbers.specs.Amounts.{is-negative}
 use Rattle.numbers.specs.Nearest.{nearest}
+pub use Rattle.numbers.specs.Refusals.{Test, _when_, Verdict, refuse, accept}
+unfoldable pub use Rattle.numbers.specs.Refusals.{verdict}
 use Rattle.proration.specs.Proration.{prorateZ}
 use Rattle.point_day.specs.Limits.{USERS, KINDS, LIMIT, AMOUNT, COEFFICIENT, PARTS, ROWS}
 use Rattle.point_day.specs.Day.{User, Day, empty-user, numbers, all-offtake, whole, all-whole, net, is-measured, some, no-more, is-number, emission-right, too-large, provisional, last-stage, next}
@@ -17,15 +19,6 @@ use Rattle.point_day.specs.declared.Measurement.the-variants.{Measured}
 
 -- ---- a call
 
--- a row of the refusals' table: its number, and whether its condition holds
-pub record Test : Type 0 where
-  pub number : ℕ
-  pub holds : Bool
-
-abbrev pub _when_ : ℕ → Bool → Test
-n when b = record { number = n; holds = b }
-
-infix 5 _when_
 -- what a call answers: the number of a refusal, or the values that document 01 names
 pub data Answer : Type 0 where
   refused : ℕ → Answer
@@ -40,15 +33,6 @@ pub record Move : Type 0 where
   pub tests : List Test
   pub answer : Answer
   pub after : Day
-
--- "If several apply, the row higher up decides"
-pub data Verdict : Type 0 where
-  refuse : ℕ → Verdict
-  accept : Verdict
-
-unfoldable pub verdict : List Test → Verdict
-verdict [] = accept
-verdict (t ∷ ts) = pick (t .holds) (refuse (t .number)) (verdict ts)
 
 -- ---- days and users with other contents
 
