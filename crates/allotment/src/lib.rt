@@ -3,7 +3,7 @@ ghost use mathlib.Core.Bool.{true};
 ghost use mathlib.Core.List.{[], _++_};
 ghost use Prim.Native.Nat.{ℕ, _+_, _*_, _≤_, _<_};
 ghost use lib.IntN.{pos, natAbs};
-ghost use lib.ListN.{length, take, drop, replicate};
+ghost use lib.ListN.{length, take, drop};
 ghost use Rattle.numbers.specs.Sums.{pick, atZ, Bounded, total};
 ghost use Rattle.numbers.specs.Lists.{distinct};
 ghost use Rattle.numbers.specs.Amounts.{Within};
@@ -113,26 +113,7 @@ fn weigh<'a>(consumption: &'a [i64; CELLS], losses: &'a [i64; CELLS], ws: &mut [
     true
 }
 
-// The user numbers, which decide between equal remainders.
-fn keys_of(users: &[u16], keys: &mut [u64])
-    requires { ⌜ length (now keys) ≤ length (now users) ⌝ }
-    ensures { λ _. ⌜ now (keys .exit) ≡ take (length (now (keys .entry))) (now (users .entry)) ⌝ }
-{
-    let mut s = 0;
-    while s < keys.len() {
-        let user = users[s];
-        keys[s] = user as u64;
-        s += 1;
-    }
-}
-
-// Zeros. (Calls, so that no proof above sees their elements one by one.)
-fn no_numbers() -> [u64; USERS]
-    ensures { λ r. ⌜ r ≡ replicate USERS 0 ⌝ }
-{
-    [0; USERS]
-}
-
+// Zeros. (A call, so that no proof above sees its elements one by one.)
 fn no_cells() -> [i64; CELLS]
     ensures { λ r. ⌜ r ≡ padded CELLS (pos 0) [] ⌝ }
 {
@@ -154,7 +135,7 @@ fn share_by<'a>(
     ensures { λ r. ⌜ r ≡ by-all-kinds (now (consumption .entry)) (now (losses .entry)) (length (now (ws .entry))) ⌝ }
     ensures { λ r. ⌜ now (shares .exit) ≡ shares-of balance (now (consumption .entry)) (now (losses .entry)) (now (users .entry)) (length (now (ws .entry))) ++ drop (length (now (ws .entry))) (now (shares .entry)) ⌝ }
 {
-    keys_of(users, keys);
+    columns::keys_of(users, keys);
     let all = weigh(consumption, losses, ws);
     let whole = proration::weight_total(ws);
     proration::prorate_signed(balance, ws, whole, keys, shares);
@@ -175,8 +156,8 @@ fn share_out<'a>(
     ensures { λ r. ⌜ r ≡ by-all-kinds (now (consumption .entry)) (now (losses .entry)) n ⌝ }
     ensures { λ r. ⌜ now (shares .exit) ≡ shares-of balance (now (consumption .entry)) (now (losses .entry)) (now (users .entry)) n ++ drop n (now (shares .entry)) ⌝ }
 {
-    let mut keys = no_numbers();
-    let mut ws = no_numbers();
+    let mut keys = columns::column();
+    let mut ws = columns::column();
     share_by(
         balance,
         consumption,

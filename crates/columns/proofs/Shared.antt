@@ -4,10 +4,15 @@ use mathlib.Core.List.{List, _++_, map, append-nil}
 use Prim.Native.Nat.{ℕ}
 use native.Mathlib.Omega.{arith}
 use lib.IntN.{ℤ, pos, natAbs}
-use lib.ListN.{length, drop, length-map, drop-of-length-le, List·getD-map}
+use lib.ListN.{length, take, drop, length-map, drop-of-length-le, List·getD-map}
+use lib.Seq.{take-length}
 use Rattle.numbers.specs.Sums.{at, atZ, Bounded}
 use Rattle.numbers.specs.Amounts.{Within}
 use Rattle.proration.specs.Proration.{prorateZ}
+
+-- as many keys as users
+pub all-keys : (users d : List ℕ) {e : List ℕ} → e ≡ take (length d) users → length d ≡ length users → e ≡ users
+all-keys users d h l = h ∙ ap (λ n. take n users) l ∙ take-length users
 
 -- a buffer just long enough
 pub fitted : {A : Type 0} (n : ℕ) (xs d : List A) {e : List A} → e ≡ xs ++ drop n d → length d ≡ n → e ≡ xs

@@ -3,7 +3,7 @@ ghost use mathlib.Core.Bool.{true};
 ghost use mathlib.Core.List.{map, _++_};
 ghost use Prim.Native.Nat.{ℕ, _≤_, _<_};
 ghost use lib.IntN.{natAbs, _+ℤ_};
-ghost use lib.ListN.{length, drop, replicate};
+ghost use lib.ListN.{length, take, drop, replicate};
 ghost use Rattle.numbers.specs.Sums.{table, at, atZ};
 ghost use Rattle.numbers.specs.Lists.{every};
 ghost use Rattle.numbers.specs.Amounts.{Within};
@@ -18,7 +18,7 @@ use point_day::USERS;
 // Columns of a point-day's users: one number or amount for each user.
 
 // Zeros. (A call, so that no proof above sees its elements one by one.)
-fn column() -> [u64; USERS]
+pub fn column() -> [u64; USERS]
     ensures { λ r. ⌜ r ≡ replicate USERS 0 ⌝ }
 {
     [0; USERS]
@@ -38,13 +38,13 @@ fn key(users: &[u16], i: usize) -> u64
     wide(users[i])
 }
 
-// The keys of users; later keys stay.
-fn keys_of(users: &[u16], keys: &mut [u64])
-    requires { ⌜ length (now users) ≤ length (now keys) ⌝ }
-    ensures { λ _. ⌜ now (keys .exit) ≡ now (users .entry) ++ drop (length (now (users .entry))) (now (keys .entry)) ⌝ }
+// The keys of as many users as there is room for.
+pub fn keys_of(users: &[u16], keys: &mut [u64])
+    requires { ⌜ length (now keys) ≤ length (now users) ⌝ }
+    ensures { λ _. ⌜ now (keys .exit) ≡ take (length (now (keys .entry))) (now (users .entry)) ⌝ }
 {
     let mut i = 0;
-    while i < users.len() {
+    while i < keys.len() {
         keys[i] = key(users, i);
         i += 1;
     }

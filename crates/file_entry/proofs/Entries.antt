@@ -27,7 +27,8 @@ use Rattle.point_day.specs.declared.LineAnswer.the-variants.{Refused, LossesAdd
 use Rattle.point_day.proofs.Taken.{taken-facts}
 use Rattle.state.specs.Places.{Placed}
 use Rattle.state.proofs.Totals.{offtake-is}
-use Rattle.state.proofs.Cells.{every-at, low-from}
+use Rattle.numbers.proofs.Places.{every-at}
+use Rattle.state.proofs.Cells.{low-from}
 use Rattle.state.proofs.Facts.{Facts, facts}
 use Rattle.entry.specs.Writes.{line-losses, past-limit, more, place, Limited, with-cells, lined-at}
 use Rattle.entry.proofs.Padding.{map-set}

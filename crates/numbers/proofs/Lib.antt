@@ -1,5 +1,6 @@
 pub mod Sums
 pub mod Filled
 pub mod Lists
+pub mod Places
 pub mod Amounts
 pub mod Rounding

@@ -10,7 +10,7 @@ use native.Mathlib.Numerals.{add-one}
 use lib.Dec.{ltb}
 use lib.IntN.{ℤ, pos, _+ℤ_, +ℤ-assoc, +ℤ-comm}
 use lib.ListN.{length, getD, take, drop, set, length-append, List·getD-append}
-use lib.Seq.{getD-at, drop-at, take-suc}
+use lib.Seq.{getD-at, drop-at, take-suc, take-length}
 use borrow.Author.Tests.{ltb-true, ltb-false}
 use Rattle.numbers.specs.Sums.{bit, sum, sumZ, table, at, atZ, total, totalZ}
 
@@ -177,7 +177,10 @@ pub totalZ-table : (f : ℕ → ℤ) (n : ℕ) → totalZ (table f n) ≡ sumZ f
 totalZ-table f n = totalZ-sum (table f n) ∙ rw (length-table f n) (sumZ-eq (atZ (table f n)) f n (λ i l. getD-table f n i (pos 0) l))
 
 -- the first n elements are the table of them
-pub take-table : (xs : List ℕ) (n : ℕ) → n ≤ length xs → take n xs ≡ table (at xs) n
+pub table-take : {A : Type 0} (x : A) (xs : List A) (n : ℕ) → n ≤ length xs → table (λ i. getD xs i x) n ≡ take n xs
 unfolding table
-take-table xs zero l = refl
-take-table xs (suc n) l = take-suc xs n 0 (omega arith) ∙ ap (λ t. t ++ (at xs n ∷ [])) (take-table xs n (omega arith))
+table-take x xs zero l = refl
+table-take x xs (suc n) l = ap (λ t. t ++ (getD xs n x ∷ [])) (table-take x xs n (omega arith)) ∙ sym (take-suc xs n x (omega arith))
+
+pub table-all : {A : Type 0} (x : A) (xs : List A) → table (λ i. getD xs i x) (length xs) ≡ xs
+table-all x xs = table-take x xs (length xs) (omega arith) ∙ take-length xs

@@ -7,10 +7,10 @@ use native.Mathlib.Omega.{arith}
 use lib.Dec.{eqb}
 use lib.IntN.{ℤ, pos, negsuc, natAbs}
 use lib.ListN.{length, getD, take, drop, replicate, length-map, length-drop, take-append-drop}
-use lib.Seq.{take-suc, take-add, length-take-le}
+use lib.Seq.{take-add, length-take-le}
 use borrow.Author.Tests.{eqb-true, not-true}
 use Rattle.numbers.specs.Sums.{table}
-use Rattle.numbers.proofs.Sums.{length-table}
+use Rattle.numbers.proofs.Sums.{length-table, table-take}
 use Rattle.numbers.specs.Amounts.{is-negative}
 use Rattle.numbers.specs.Lists.{every, flat}
 use Rattle.point_day.specs.Limits.{USERS, CELLS}
@@ -28,11 +28,6 @@ pub map-table : {A B : Type 0} (g : A → B) (f : ℕ → A) (n : ℕ) → map g
 unfolding table
 map-table g f zero = refl
 map-table g f (suc n) = map-append g (table f n) (f n ∷ []) ∙ ap (λ t. t ++ (g (f n) ∷ [])) (map-table g f n)
-
-table-take : {A : Type 0} (x : A) (xs : List A) (n : ℕ) → n ≤ length xs → table (λ i. getD xs i x) n ≡ take n xs
-unfolding table
-table-take x xs zero l = refl
-table-take x xs (suc n) l = ap (λ t. t ++ (getD xs n x ∷ [])) (table-take x xs n (omega arith)) ∙ sym (take-suc xs n x (omega arith))
 
 pub flat-snoc : {A : Type 0} (xss : List (List A)) (xs : List A) → flat (xss ++ (xs ∷ [])) ≡ flat xss ++ xs
 unfolding flat

@@ -8,7 +8,7 @@ use lib.ListN.{length, drop, take-append-drop}
 use borrow.Author.Tests.{le-ltb}
 use Rattle.numbers.specs.Sums.{bit, sum, table, at, total}
 use Rattle.proration.specs.Proration.{ahead, floor, rem, before, rank, left, topped, share, split}
-use Rattle.numbers.proofs.Sums.{sum-eq, sum-one, table-eq, at-table, length-table, at-front, drop-front, total-sum, take-table}
+use Rattle.numbers.proofs.Sums.{sum-eq, sum-one, table-eq, at-table, length-table, at-front, drop-front, total-sum, table-take}
 use Rattle.proration.proofs.Shares.{floors-le}
 
 rank-eq : (r s k : ℕ → ℕ) (n : ℕ) → ((i : ℕ) → i < n → r i ≡ s i) → (i : ℕ) → i < n → rank r k n i ≡ rank s k n i
@@ -54,7 +54,7 @@ module _ (a : ℕ) (ws ks s₀ : List ℕ) (pos : 0 < total ws) {W : ℕ} (whole
 pub none-left : (r k : ℕ → ℕ) (s : List ℕ) (n : ℕ) → n ≤ length s → {c : ℕ} → c ≡ 0 → s ≡ table (topped (at s) r k c n) n ++ drop n s
 none-left r k s n l {c} e =
     sym (take-append-drop n s)
-    ∙ ap (λ t. t ++ drop n s) (take-table s n l ∙ table-eq (at s) (topped (at s) r k c n) n (λ i _. same i))
+    ∙ ap (λ t. t ++ drop n s) (sym (table-take 0 s n l) ∙ table-eq (at s) (topped (at s) r k c n) n (λ i _. same i))
   where
     same : (i : ℕ) → at s i ≡ topped (at s) r k c n i
     same i = rw (e, le-ltb (rank r k n i) 0 (omega arith)) (omega arith)

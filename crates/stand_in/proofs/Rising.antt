@@ -15,7 +15,7 @@ use Rattle.numbers.proofs.Sums.{lt-or-ge}
 use Rattle.numbers.proofs.Lists.{both-true}
 use Rattle.point_day.specs.Limits.{LAST-NUMBER}
 use Rattle.point_day.specs.Day.{is-number}
-use Rattle.columns.proofs.Tables.{one-fails, none-fail}
+use Rattle.numbers.proofs.Places.{one-fails, at-every}
 
 -- ---- rising, place by place
 
@@ -56,7 +56,7 @@ module _ (us : List ℕ) where
     pub risen-all : i ≡ length us → true ≡ both (every is-number us) (rising us)
     risen-all e =
         sym (both-true
-        (none-fail is-number 0 us (λ k l. let h = r .each k (omega arith) in both-true (le-leb 1 (at us k) (omega (arith, h .0))) (le-leb (at us k) LAST-NUMBER (h .1))))
+        (at-every is-number 0 us (λ k l. let h = r .each k (omega arith) in both-true (le-leb 1 (at us k) (omega (arith, h .0))) (le-leb (at us k) LAST-NUMBER (h .1))))
         (rising-at us (λ k l. r .each (suc k) (omega arith) .0)))
 
     pub risen-stop : i < length us → at us i ≤ last → false ≡ both (every is-number us) (rising us)

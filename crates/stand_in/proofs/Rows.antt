@@ -10,7 +10,7 @@ use lib.Seq.{getD-drop}
 use borrow.Author.Tests.{le-leb, lt-leb}
 use Rattle.numbers.specs.Sums.{table}
 use Rattle.numbers.specs.Lists.{both, every, rising}
-use Rattle.numbers.proofs.Sums.{length-table, getD-table}
+use Rattle.numbers.proofs.Sums.{length-table, getD-table, table-take}
 use Rattle.numbers.proofs.Lists.{never}
 use Rattle.point_day.specs.Limits.{USERS, ROWS, AMOUNT}
 use Rattle.point_day.specs.Day.{some, no-more, is-number}
@@ -20,7 +20,7 @@ use Rattle.point_day.specs.declared.StandInRows.{StandInRows}
 use Rattle.point_day.proofs.Back.{map-table}
 use Rattle.point_day.proofs.Each.{length-some}
 use Rattle.columns.proofs.Padding.{table-by}
-use Rattle.columns.proofs.Tables.{table-take, one-fails, none-fail}
+use Rattle.numbers.proofs.Places.{one-fails, at-every}
 use Rattle.stand_in.specs.Openings.{Nearest}
 
 -- ---- part of an array
@@ -74,7 +74,7 @@ module _ (rs : StandInRows) where
   nth-row i l = getD-table (row-at rs) ROWS i [] l
 
   pub all-right : ((i : ℕ) → i < ROWS → row-right (row-at rs i) ≡ true) → every row-right (rows-of rs) ≡ true
-  all-right h = none-fail row-right [] (rows-of rs) (λ i l. let m : i < ROWS = omega (arith, rows-long) in ap row-right (nth-row i m) ∙ h i m)
+  all-right h = at-every row-right [] (rows-of rs) (λ i l. let m : i < ROWS = omega (arith, rows-long) in ap row-right (nth-row i m) ∙ h i m)
 
   pub one-wrong : (i : ℕ) → i < ROWS → row-right (row-at rs i) ≡ false → every row-right (rows-of rs) ≡ false
   one-wrong i l e = one-fails row-right [] (rows-of rs) i (omega (arith, rows-long)) (ap row-right (nth-row i l) ∙ e)

@@ -21,28 +21,6 @@ use Rattle.point_day.specs.Limits.{AMOUNT}
 use Rattle.point_day.specs.Day.{is-zero}
 use Rattle.state.specs.Places.{From}
 
--- ---- every place, and every element
-
-module _ {A : Type 0} (p : A → Bool) (x : A) where
-  pub every-at : (xs : List A) → every p xs ≡ true → (i : ℕ) → i < length xs → p (getD xs i x) ≡ true
-  unfolding every
-  every-at [] e i l = absurd (omega arith)
-  every-at (y ∷ xs) e zero l = both-fst (p y) _ e
-  every-at (y ∷ xs) e (suc i) l = every-at xs (both-snd (p y) _ e) i (omega arith)
-
-  pub at-every : (xs : List A) → ((i : ℕ) → i < length xs → p (getD xs i x) ≡ true) → every p xs ≡ true
-  unfolding every
-  at-every [] h = refl
-  at-every (y ∷ xs) h = both-true {p = p y} (h 0 (omega arith)) (at-every xs (λ i l. h (suc i) (omega arith)))
-
-  pub every-from : (n : ℕ) (xs : List A) → every p (drop n xs) ≡ true → (i : ℕ) → n ≤ i → i < length xs → p (getD xs i x) ≡ true
-  every-from n xs e i l m =
-      let q : n + (i - n) ≡ i = omega arith in
-      ap p (ap (λ k. getD xs k x) (sym q) ∙ sym (getD-drop n xs (i - n) x)) ∙ every-at (drop n xs) e (i - n) (omega (arith, length-drop n xs))
-
-  pub from-every : (n : ℕ) (xs : List A) → ((i : ℕ) → n ≤ i → i < length xs → p (getD xs i x) ≡ true) → every p (drop n xs) ≡ true
-  from-every n xs h = at-every (drop n xs) (λ i l. ap p (getD-drop n xs i x) ∙ h (n + i) (omega arith) (omega (arith, length-drop n xs)))
-
 -- ---- ranges of an amount
 
 pub zero-between : (z : ℤ) → is-zero z ≡ true → Between (pos 0) (pos 0) z

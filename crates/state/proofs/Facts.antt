@@ -13,7 +13,8 @@ use borrow.Author.Tests.{le-leb, leb-true, eqb-true, eq-eqb, not-true, not-false
 use Rattle.numbers.specs.Sums.{sumZ, table, at, atZ, total}
 use Rattle.numbers.specs.Lists.{every, has, distinct}
 use Rattle.numbers.specs.Amounts.{Between, Decides, is-negative}
-use Rattle.numbers.proofs.Sums.{lt-or-ge, length-table, getD-table, take-table, at-total, sumZ-eq}
+use Rattle.numbers.proofs.Places.{every-at, at-every, every-from, from-every}
+use Rattle.numbers.proofs.Sums.{lt-or-ge, length-table, getD-table, table-take, at-total, sumZ-eq}
 use Rattle.numbers.proofs.Lists.{true≢false, never, both-fst, both-snd, both-true, every-all, all-table}
 use Rattle.point_day.specs.Limits.{USERS, CELLS, KINDS, LIMIT, AMOUNT}
 use Rattle.point_day.specs.Day.{User, numbers, whole, is-measured, some, no-more, is-zero, measurement-right, too-large}
@@ -23,7 +24,7 @@ use Rattle.point_day.specs.declared.PointDay.{PointDay}
 use Rattle.point_day.proofs.Taken.{Past, Taken, taken-facts, facts-taken}
 use Rattle.point_day.proofs.Back.{map-table, every-take, every-drop}
 use Rattle.state.specs.Places.{From, Cells, Arrays, ROOM, Laid, Wholes, Stands, whole-at}
-use Rattle.state.proofs.Cells.{every-at, at-every, every-from, from-every, zero-between, between-zero, between-sign, low-size, nonneg-between, between-size, size-between, within-from, low-from}
+use Rattle.state.proofs.Cells.{zero-between, between-zero, between-sign, low-size, nonneg-between, between-size, size-between, within-from, low-from}
 use Rattle.state.proofs.Totals.{kinds-long, offtake-is, whole-is, wholes-are}
 
 abbrev pub wholes-of : PointDay → ℕ → ℤ
@@ -45,7 +46,7 @@ pub record Facts (d : PointDay) : Type 0 where
 
 numbers-are : (d : PointDay) → d .count ≤ length (d .users) → numbers (read d .users) ≡ take (d .count) (d .users)
 unfolding read user-at
-numbers-are d l = map-table (λ (u : User). u .number) (user-at d) (d .count) ∙ sym (take-table (d .users) (d .count) l)
+numbers-are d l = map-table (λ (u : User). u .number) (user-at d) (d .count) ∙ table-take 0 (d .users) (d .count) l
 
 -- ---- the users one by one
 

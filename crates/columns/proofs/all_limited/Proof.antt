@@ -13,7 +13,7 @@ use borrow.Author.Count.{below-more}
 use borrow.Author.Tests.{not-true, not-false}
 use Rattle.numbers.specs.Sums.{atZ}
 use Rattle.point_day.specs.Limits.{AMOUNT}
-use Rattle.columns.proofs.Tables.{one-fails, none-fail}
+use Rattle.numbers.proofs.Places.{one-fails, at-every}
 use borrow.Author.Needs.{needs}
 use Rattle.columns.proofs.all_limited.Statement.{statement}
 use Rattle.columns.proofs.all_limited.Tie as tie
@@ -57,7 +57,7 @@ loop-again c =
 returns-2 : tie.Need-returns-2 Inv-loop μ-loop
 returns-2 c =
     let zs = c .before .before .args .amounts .now in
-    sym (none-fail (λ (z : ℤ). leb (natAbs z) AMOUNT) (pos 0) zs (λ k l. c .before .loop .inv .1 k (omega arith)))
+    sym (at-every (λ (z : ℤ). leb (natAbs z) AMOUNT) (pos 0) zs (λ k l. c .before .loop .inv .1 k (omega arith)))
 
 pub all-limited-spec : {M : Type 1} → statement M
 all-limited-spec =

@@ -11,7 +11,7 @@ use mir.Facts.{toZ-ofZ}
 use borrow.Author.Count.{below-more}
 use Rattle.numbers.specs.Sums.{atZ}
 use Rattle.numbers.specs.Amounts.{is-negative}
-use Rattle.columns.proofs.Tables.{one-fails, none-fail}
+use Rattle.numbers.proofs.Places.{one-fails, at-every}
 use borrow.Author.Needs.{needs}
 use Rattle.columns.proofs.any_negative.Statement.{statement}
 use Rattle.columns.proofs.any_negative.Tie as tie
@@ -55,7 +55,7 @@ loop-again c =
 returns-2 : tie.Need-returns-2 Inv-loop μ-loop
 returns-2 c =
     let zs = c .before .before .args .amounts .now in
-    sym (ap not (none-fail (λ (z : ℤ). not (is-negative z)) (pos 0) zs (λ k l. c .before .loop .inv .1 k (omega arith))))
+    sym (ap not (at-every (λ (z : ℤ). not (is-negative z)) (pos 0) zs (λ k l. c .before .loop .inv .1 k (omega arith))))
 
 pub any-negative-spec : {M : Type 1} → statement M
 any-negative-spec =

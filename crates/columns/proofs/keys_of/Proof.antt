@@ -1,21 +1,20 @@
--- `columns::keys_of` meets its contract. Assumes nothing.
-use mathlib.Core.Path.{ap, _∙_}
-use mathlib.Core.List.{_++_}
+-- `columns::keys_of` meets its contract: a buffer that is filled place by place. Assumes nothing.
+use mathlib.Core.Path.{_≡_, sym, ap, _∙_}
 use Prim.Native.Nat.{_-_, _≤_}
 use native.Mathlib.Omega.{arith}
-use lib.ListN.{length, drop}
-use Rattle.numbers.specs.Sums.{at}
-use Rattle.numbers.proofs.Filled.{Filled, fill-none, fill-step, fill-end}
-use Rattle.columns.proofs.Tables.{table-all}
+use lib.ListN.{length}
+use Rattle.numbers.specs.Sums.{table, at}
+use Rattle.numbers.proofs.Sums.{table-take}
+use Rattle.numbers.proofs.Filled.{Filled, fill-none, fill-step, fill-all}
 use borrow.Author.Needs.{needs}
 use Rattle.columns.proofs.keys_of.Statement.{statement}
 use Rattle.columns.proofs.keys_of.Tie as tie
 
 abbrev Inv-loop : tie.InvT-loop
-Inv-loop users keys₀ i₀ keys i = (i ≤ length users) × Filled (at users) keys₀ i keys
+Inv-loop users keys₀ i₀ keys i = (i ≤ length keys₀) × Filled (at users) keys₀ i keys
 
 abbrev μ-loop : tie.MeasureT-loop
-μ-loop users keys₀ i₀ keys i = length users - i
+μ-loop users keys₀ i₀ keys i = length keys₀ - i
 
 loop-holds : tie.Need-loop-holds Inv-loop μ-loop
 loop-holds c = (omega arith, fill-none _ _)
@@ -43,8 +42,9 @@ same-length c = c .before .loop .inv .1 .long
 
 returns : tie.Need-returns Inv-loop μ-loop
 returns c =
-    let us = c .before .before .before .before .args .users .now in
-    fill-end (c .before .loop .inv .1) (omega arith) ∙ ap (λ t. t ++ drop (length us) (c .before .before .before .before .args .keys .now)) (table-all us)
+    let s = c .before .before .before .before in
+    let e : c .before .loop .i ≡ length (s .args .keys .now) = omega arith in
+    fill-all (c .before .loop .inv .1) (sym e) ∙ ap (table _) e ∙ table-take 0 (s .args .users .now) _ (s .pre)
 
 pub keys-of-spec : {M : Type 1} → statement M
 keys-of-spec =

@@ -7,7 +7,7 @@ use lib.IntN.{natAbs}
 use lib.ListN.{length}
 use mir.Facts.{toZ-ofZ}
 use Rattle.numbers.proofs.Amounts.{widen}
-use Rattle.columns.proofs.Shared.{fitted, sizes-long, sizes-bounded, shared-out}
+use Rattle.columns.proofs.Shared.{all-keys, fitted, sizes-long, sizes-bounded, shared-out}
 use borrow.Author.Needs.{needs}
 use Rattle.columns.proofs.share_by.Statement.{statement}
 use Rattle.columns.proofs.share_by.Tie as tie
@@ -29,7 +29,7 @@ prorate-signed-requires : tie.Need-prorate-signed-requires
 prorate-signed-requires c κs =
     let a = c .before .before .before .before .before .before .before .before .before .before .before .before .before .before .before .before .args in
     let p = c .before .before .before .before .before .before .before .before .before .before .before .before .before .before .before .before .pre in
-    let k = fitted (length (a .users .now)) (a .users .now) (a .keys .now) (c .before .before .before .before .before .before .before .before .before .before .before .keys-of .ensures) (p .1 .0) in
+    let k = all-keys (a .users .now) (a .keys .now) (c .before .before .before .before .before .before .before .before .before .before .before .keys-of .ensures) (p .1 .0) in
     let w = fitted (length (a .amounts .now)) (map natAbs (a .amounts .now)) (a .weights .now) (c .before .before .before .before .before .before .before .sizes-of .ensures) (p .1 .1 ∙ sym (p .0 .3)) in
     let l = sizes-long (a .amounts .now) w in
     ((rw (toZ-ofZ (c .before .before .before .before .before .before .before .before .before .before .before .before .before .before .before .before .fits .amount)) (p .0 .0), c .before .before .before .weight-total .ensures, omega arith, omega arith, sizes-bounded (a .amounts .now) w (p .0 .4)), (omega (arith, ap length k), omega arith))
@@ -47,7 +47,7 @@ returns : tie.Need-returns
 returns c =
     let a = c .before .before .before .before .before .before .before .before .before .before .before .before .before .before .before .before .before .before .args in
     let p = c .before .before .before .before .before .before .before .before .before .before .before .before .before .before .before .before .before .before .pre in
-    let k = fitted (length (a .users .now)) (a .users .now) (a .keys .now) (c .before .before .before .before .before .before .before .before .before .before .before .before .before .keys-of .ensures) (p .1 .0) in
+    let k = all-keys (a .users .now) (a .keys .now) (c .before .before .before .before .before .before .before .before .before .before .before .before .before .keys-of .ensures) (p .1 .0) in
     let w = fitted (length (a .amounts .now)) (map natAbs (a .amounts .now)) (a .weights .now) (c .before .before .before .before .before .before .before .before .before .sizes-of .ensures) (p .1 .1 ∙ sym (p .0 .3)) in
     shared-out (a .amount) (a .users .now) (a .amounts .now) (a .shares .now) k w (p .0 .3) (rw (toZ-ofZ (c .before .before .before .before .before .before .before .before .before .before .before .before .before .before .before .before .before .before .fits .amount)) at (c .before .prorate-signed .ensures))
 

@@ -6,7 +6,7 @@ use native.Mathlib.Omega.{arith}
 use lib.ListN.{length, drop}
 use Rattle.numbers.specs.Sums.{at}
 use Rattle.numbers.proofs.Filled.{Filled, fill-none, fill-step, fill-end}
-use Rattle.columns.proofs.Tables.{table-all}
+use Rattle.numbers.proofs.Sums.{table-all}
 use borrow.Author.Needs.{needs}
 use Rattle.stand_in.proofs.put_users.Statement.{statement}
 use Rattle.stand_in.proofs.put_users.Tie as tie
@@ -47,7 +47,7 @@ same-length c = c .before .loop .inv .1 .long
 returns : tie.Need-returns Inv-loop μ-loop
 returns c =
     let us = c .before .before .args .users .now in
-    fill-end (c .before .loop .inv .1) (omega arith) ∙ ap (λ t. t ++ drop (length us) (c .before .before .args .column .now)) (table-all us)
+    fill-end (c .before .loop .inv .1) (omega arith) ∙ ap (λ t. t ++ drop (length us) (c .before .before .args .column .now)) (table-all 0 us)
 
 pub put-users-spec : {M : Type 1} → statement M
 put-users-spec =
