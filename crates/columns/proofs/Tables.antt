@@ -1,16 +1,13 @@
 -- Columns as tables, and tests of every amount of one. Assumes nothing.
-use mathlib.Core.Path.{_≡_, refl, sym, ap, _∙_}
-use mathlib.Core.Bool.{Bool, true, false}
-use mathlib.Core.List.{List, [], _∷_, _++_, map}
-use Prim.Native.Nat.{ℕ, zero, suc, _≤_, _<_}
+use mathlib.Core.Path.{_≡_, sym, _∙_}
+use mathlib.Core.List.{List, map}
+use Prim.Native.Nat.{_<_}
 use native.Mathlib.Omega.{arith}
 use lib.IntN.{ℤ, pos, natAbs}
-use lib.ListN.{take, getD, length, length-map}
-use lib.Seq.{take-suc, take-length, ext-getD}
-use Rattle.numbers.specs.Sums.{table, at, atZ}
-use Rattle.numbers.specs.Lists.{both, every}
+use lib.ListN.{length, length-map}
+use lib.Seq.{ext-getD}
+use Rattle.numbers.specs.Sums.{table, atZ}
 use Rattle.numbers.proofs.Sums.{length-table, getD-table}
-use Rattle.numbers.proofs.Lists.{both-true}
 use Rattle.point_day.proofs.Each.{map-at}
 
 pub table-sizes : (zs : List ℤ) → table (λ k. natAbs (atZ zs k)) (length zs) ≡ map natAbs zs

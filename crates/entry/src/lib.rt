@@ -1,7 +1,6 @@
 ghost use mathlib.Core.Path.{_≡_};
-ghost use mathlib.Core.Bool.{Bool, not};
-ghost use Prim.Native.Nat.{ℕ, _+_, _≤_, _<_};
-ghost use lib.IntN.{ℤ};
+ghost use mathlib.Core.Bool.{not};
+ghost use Prim.Native.Nat.{_+_, _≤_, _<_};
 ghost use Rattle.numbers.specs.Sums.{pick};
 ghost use Rattle.numbers.specs.Lists.{both};
 ghost use Rattle.point_day.specs.Limits.{USERS, KINDS, CELLS, LIMIT, COEFFICIENT};

@@ -6,7 +6,7 @@ use Prim.Native.Nat.{ℕ, zero, suc, _+_, _-_, _*_, _≤_, _<_}
 use native.Mathlib.Omega.{arith}
 use lib.Dec.{eqb}
 use lib.IntN.{ℤ, pos, negsuc, natAbs}
-use lib.ListN.{length, getD, take, drop, replicate, length-map, length-drop, take-append-drop}
+use lib.ListN.{length, take, drop, replicate, length-map, length-drop, take-append-drop}
 use lib.Seq.{take-add, length-take-le}
 use borrow.Author.Tests.{eqb-true, not-true}
 use Rattle.numbers.specs.Sums.{table}

@@ -1,5 +1,5 @@
 -- The call for programs in other languages, `proration_split`: what it answers, and what it leaves in the lent buffer. Assumes nothing.
-use mathlib.Core.Bool.{Bool, true, false, not}
+use mathlib.Core.Bool.{Bool, true, false}
 use mathlib.Core.List.{List, [], _∷_, _++_}
 use mathlib.Core.Path.{_≡_, refl}
 use Prim.Native.Nat.{ℕ}

@@ -1,21 +1,19 @@
 -- Amounts place by place, against tests of every element; sums of amounts that are not negative. Assumes nothing.
-use mathlib.Core.Path.{_≡_, refl, sym, ap, _∙_}
-use mathlib.Core.Bool.{Bool, true, false}
+use mathlib.Core.Path.{_≡_, refl}
+use mathlib.Core.Bool.{true, false}
 use mathlib.Core.List.{List, [], _∷_, map}
 use mathlib.Core.Logic.{⊎-elim}
-use Prim.Native.Nat.{ℕ, zero, suc, _+_, _-_, _*_, _≤_, _<_}
+use Prim.Native.Nat.{ℕ, zero, suc, _-_, _*_, _≤_, _<_}
 use native.Mathlib.Omega.{arith}
 use native.Mathlib.Nat.{suc-mul}
 use lib.IntN.{ℤ, pos, negsuc, negℤ, natAbs}
 use lib.Signed.{ltZ, leZ}
-use lib.ListN.{length, getD, drop, length-drop, List·getD-eq-default}
-use lib.Seq.{getD-drop}
+use lib.ListN.{length, List·getD-eq-default}
 use borrow.Author.Tests.{eqb-true, eq-eqb, leb-true, leb-false, ltb-false, le-ltb}
 use Rattle.numbers.specs.Sums.{atZ, total, totalZ}
-use Rattle.numbers.specs.Lists.{every}
 use Rattle.numbers.specs.Amounts.{Within, Between, Decides, is-negative}
 use Rattle.numbers.proofs.Sums.{lt-or-ge}
-use Rattle.numbers.proofs.Lists.{All, true≢false, both-fst, both-snd, both-true}
+use Rattle.numbers.proofs.Lists.{All, true≢false}
 use Rattle.numbers.proofs.Amounts.{NonNeg, sum-nonneg, between}
 use Rattle.point_day.specs.Limits.{AMOUNT}
 use Rattle.point_day.specs.Day.{is-zero}
