@@ -441,7 +441,7 @@ fn in_range(amount: i64, ws: &[u64], keys: &[u64]) -> bool
     none_above(ws, WEIGHT)
 }
 
-// What `proration_split` answers: done, or document 01's number of a refusal.
+// What `seatpomelo_split` answers: done, or document 01's number of a refusal.
 const DONE: u64 = 0;
 
 const OUT_OF_RANGE: u64 = 2;
@@ -450,7 +450,7 @@ const SHORT_BUFFER: u64 = 14;
 
 // The signed amount prorated over the weights, for programs in other languages; any arguments will do.
 #[no_mangle]
-pub extern "C" fn proration_split(amount: i64, ws: &[u64], keys: &[u64], out: &mut [i64]) -> u64
+pub extern "C" fn seatpomelo_split(amount: i64, ws: &[u64], keys: &[u64], out: &mut [i64]) -> u64
     ensures { λ r. ⌜ r ≡ answer amount (now (ws .entry)) (now (keys .entry)) (now (out .entry)) ⌝ }
     ensures { λ _. ⌜ now (out .exit) ≡ after amount (now (ws .entry)) (now (keys .entry)) (now (out .entry)) ⌝ }
 {

@@ -97,7 +97,7 @@ fn run_split(
 {
     read_numbers(s, at, weights);
     read_numbers(s, at + NUMBER * weights.len(), keys);
-    if proration::proration_split(amount, weights, keys, shares) != 0 {
+    if proration::seatpomelo_split(amount, weights, keys, shares) != 0 {
         return false;
     }
     print_line(shares);

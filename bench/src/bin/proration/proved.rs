@@ -3,7 +3,7 @@
 #[link(name = "proration", kind = "static")]
 extern "C" {
     // A Rattle slice is passed as a pointer and a length.
-    fn proration_split(
+    fn seatpomelo_split(
         amount: i64,
         weights: *const u64,
         weight_count: usize,
@@ -18,7 +18,7 @@ extern "C" {
 pub fn split(amount: i64, weights: &[u64], keys: &[u64], shares: &mut [i64]) -> Result<(), u64> {
     // SAFETY: each pointer comes with the length of its slice, and the slices live through the call.
     let answer = unsafe {
-        proration_split(
+        seatpomelo_split(
             amount,
             weights.as_ptr(),
             weights.len(),

@@ -1,11 +1,11 @@
--- `proration::proration_split` meets its contract. Assumes nothing.
+-- `proration::seatpomelo_split` meets its contract. Assumes nothing.
 use mathlib.Core.Path.{sym, _∙_}
 use mir.Facts.{toZ-ofZ}
 use borrow.Author.Tests.{not-true, not-false}
 use Rattle.proration.proofs.Call.{ranged, refused, too-short, done}
 use borrow.Author.Needs.{needs}
-use Rattle.proration.proofs.proration_split.Statement.{statement}
-use Rattle.proration.proofs.proration_split.Tie as tie
+use Rattle.proration.proofs.seatpomelo_split.Statement.{statement}
+use Rattle.proration.proofs.seatpomelo_split.Tie as tie
 
 in-range-requires : tie.Need-in-range-requires
 in-range-requires c κs = search needs
@@ -32,8 +32,8 @@ same-length c = search needs
 returns-3 : tie.Need-returns-3
 returns-3 c = done (c .before .before .before .before .before .before .before .before .before .args .amount) (c .before .before .before .before .before .before .before .before .before .args .ws .now) (c .before .before .before .before .before .before .before .before .before .args .keys .now) (c .before .before .before .before .before .before .before .before .before .args .out .now) (sym (rw (toZ-ofZ (c .before .before .before .before .before .before .before .before .before .fits .amount)) at (c .before .before .before .before .before .before .in-range .ensures)) ∙ not-false _ (c .before .before .before .before .before .if1 .left)) (c .before .before .before .before .if2 .left) (rw (toZ-ofZ (c .before .before .before .before .before .before .before .before .before .fits .amount)) at (c .before .prorate-signed .ensures))
 
-pub proration-split-spec : {M : Type 1} → statement M
-proration-split-spec =
+pub seatpomelo-split-spec : {M : Type 1} → statement M
+seatpomelo-split-spec =
     tie.close
     (tie.spec
     in-range-requires
