@@ -1,4 +1,1 @@
-pub mod Weighing
-pub mod Parts
-pub mod Sharing
 pub mod Outcomes
