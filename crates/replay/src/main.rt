@@ -1,11 +1,15 @@
 // Runs calls on one point-day from standard input: an operation is a byte and its arguments, little-endian.
+ghost use mathlib.Core.Path.{_≡_};
 ghost use Prim.Native.Nat.{_<_};
+ghost use lib.ListN.{length};
 
 mod input;
 mod output;
 
 use input::Cursor;
+use inventory::InventoryAnswer;
 use libc::STDIN_FILENO;
+use libc::STDOUT_FILENO;
 use point_day::AllotAnswer;
 use point_day::JoinAnswer;
 use point_day::LineAnswer;
@@ -17,9 +21,13 @@ use point_day::Stage;
 use point_day::StandInAnswer;
 use point_day::StandInRows;
 use point_day::StartFinalAnswer;
+use report_text::TEXT_ROOM;
 
 // The most bytes of input.
 const MOST: usize = 1048576;
+
+// The most numbers of a lent buffer.
+const MOST_LENT: u64 = 2000;
 
 // The place after an operation, and the point-day after it.
 struct Outcome {
@@ -369,6 +377,83 @@ fn load(s: &[u8], from: Cursor, day: PointDay) -> Outcome {
     Outcome { next, day: loaded }
 }
 
+// ---- inventory and day file
+
+// Room for the most numbers. (A call, so that no proof sees them one by one.)
+fn zeros() -> [i64; 2000]
+    ensures { λ r. ⌜ 2000 ≡ length r ⌝ }
+{
+    [0; 2000]
+}
+
+// What a lent buffer holds before a call: -1, -2, -3, ...
+fn lent_buffer() -> [i64; 2000]
+    ensures { λ r. ⌜ 2000 ≡ length r ⌝ }
+{
+    let mut lent = zeros();
+    let mut i = 0;
+    while i < 2000 {
+        lent[i] = -1 - i as i64;
+        i += 1;
+    }
+    lent
+}
+
+// The answer, and the lent numbers after it.
+fn print_inventory(day: PointDay, lent: &mut [i64]) {
+    let answer = inventory::inventory(day, lent);
+    match answer {
+        InventoryAnswer::Refused(n) => {
+            output::text(b"refused");
+            output::number(n as u64);
+        }
+        InventoryAnswer::Rows(rows) => {
+            output::text(b"inventory");
+            output::number(rows as u64);
+        }
+    }
+    output::amounts(lent);
+    output::end();
+}
+
+fn inventory(s: &[u8], from: Cursor, day: PointDay) -> Cursor {
+    let length = input::take_number(s, from, 2);
+    let next = length.next;
+    if MOST_LENT < length.value {
+        return input::failed(next.at);
+    }
+    if next.ok {
+        let m = length.value as usize;
+        let mut lent = lent_buffer();
+        print_inventory(day, &mut lent[..m]);
+    }
+    next
+}
+
+fn print_report(file: &[u8]) {
+    let mut text = [0u8; TEXT_ROOM];
+    let n = day_report::day_report(file, &mut text);
+    io::write_all(STDOUT_FILENO, &text[..n]);
+}
+
+fn day_file(s: &[u8], from: Cursor) -> Cursor {
+    let length = input::take_number(s, from, 4);
+    let start = length.next;
+    let at = start.at;
+    let bytes = (length.value % 4294967296) as usize;
+    if !start.ok {
+        return start;
+    }
+    if s.len() < at {
+        return input::failed(at);
+    }
+    if s.len() - at < bytes {
+        return input::failed(at);
+    }
+    print_report(&s[at..at + bytes]);
+    input::pass(s, start, bytes)
+}
+
 // ---- the run
 
 // One operation: its byte and its arguments.
@@ -389,7 +474,6 @@ fn step(s: &[u8], from: Cursor, day: PointDay) -> Outcome {
         3 => edit(s, next, day),
         4 => measure(s, next, day),
         5 => allot(next, day),
-
         6 => stand_in(s, next, day),
         7 => revise(next, day),
         8 => start_final(next, day),
@@ -398,6 +482,14 @@ fn step(s: &[u8], from: Cursor, day: PointDay) -> Outcome {
             Outcome { next, day }
         }
         10 => load(s, next, day),
+        11 => {
+            let after = inventory(s, next, day);
+            Outcome { next: after, day }
+        }
+        12 => {
+            let after = day_file(s, next);
+            Outcome { next: after, day }
+        }
         _ => Outcome {
             next: input::failed(next.at),
             day,

@@ -1,0 +1,48 @@
+-- `replay::inventory` lends as many numbers as asked for. Assumes nothing.
+use mathlib.Core.Path.{sym}
+use native.Mathlib.Omega.{arith}
+use lib.Seq.{length-take-le}
+use borrow.Author.Needs.{needs}
+use Rattle.replay.proofs.inventory.Statement.{statement}
+use Rattle.replay.proofs.inventory.Tie as tie
+
+take-number-requires : tie.Need-take-number-requires
+take-number-requires c κs = search needs
+
+failed-requires : tie.Need-failed-requires
+failed-requires c κs = search needs
+
+returns : tie.Need-returns
+returns c = search needs
+
+lent-buffer-requires : tie.Need-lent-buffer-requires
+lent-buffer-requires c κs = search needs
+
+array-borrow-prefix-lent : tie.Need-array-borrow-prefix-lent
+array-borrow-prefix-lent c = search needs
+
+slice-aggregate-print-inventory : tie.Need-slice-aggregate-print-inventory
+slice-aggregate-print-inventory c = sym (length-take-le _ _ (omega arith))
+
+print-inventory-requires : tie.Need-print-inventory-requires
+print-inventory-requires c κs = search needs
+
+returns-2 : tie.Need-returns-2
+returns-2 c = search needs
+
+returns-3 : tie.Need-returns-3
+returns-3 c = search needs
+
+pub inventory-spec : {M : Type 1} → statement M
+inventory-spec =
+    tie.close
+    (tie.spec
+    take-number-requires
+    failed-requires
+    returns
+    lent-buffer-requires
+    array-borrow-prefix-lent
+    slice-aggregate-print-inventory
+    print-inventory-requires
+    returns-2
+    returns-3)
