@@ -1,5 +1,7 @@
 // Numbers, lists and histories from the input, little-endian.
+ghost use mathlib.Core.Path.{_≡_};
 ghost use Prim.Native.Nat.{_≤_};
+ghost use lib.ListN.{length, take};
 ghost use Rattle.io.specs.Counts.{Counts};
 use supply::Amount;
 use supply::ENTRIES;
@@ -179,6 +181,36 @@ pub fn take_list(input: &[u8], from: Cursor, bytes: usize, into: &mut [u32]) -> 
     }
     let count = n.value as usize;
     let after = take_words(input, next, &mut into[..count]);
+    List { count, next: after }
+}
+
+// The next i64s, as many as the list has places.
+fn take_amounts(input: &[u8], from: Cursor, list: &mut [i64]) -> Cursor {
+    let mut next = from;
+    let mut i = 0;
+    while i < list.len() {
+        let n = take_number(input, next, 8);
+        list[i] = wire::to_signed(n.value);
+        next = n.next;
+        i += 1;
+    }
+    next
+}
+
+// The next list of weights: a count of two bytes, and that many i64s. More than the list has places is malformed.
+pub fn take_weights(input: &[u8], from: Cursor, into: &mut [i64]) -> List
+    ensures { λ r. ⌜ (r .count ≤ length (now (into .exit))) × (r .count ≡ length (take (r .count) (now (into .exit)))) ⌝ }
+{
+    let n = take_number(input, from, 2);
+    let next = n.next;
+    if (into.len() as u64) < n.value {
+        return List {
+            count: 0,
+            next: failed(next.at),
+        };
+    }
+    let count = n.value as usize;
+    let after = take_amounts(input, next, &mut into[..count]);
     List { count, next: after }
 }
 

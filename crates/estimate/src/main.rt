@@ -1,4 +1,7 @@
 // Runs the calls on supply points and on the calendar with cases from standard input.
+ghost use mathlib.Core.Path.{_≡_};
+ghost use lib.ListN.{length};
+
 mod input;
 mod output;
 
@@ -10,6 +13,7 @@ use degree_days::ProvinceAnswer;
 use degree_days::ZoneAnswer;
 use input::Cursor;
 use libc::STDIN_FILENO;
+use reading::SpreadAnswer;
 use supply::Amount;
 use supply::ConsumptionAnswer;
 use supply::Flows;
@@ -23,6 +27,9 @@ const MOST_INPUT: usize = 1048576;
 
 // The most lists of winters that are read.
 const MOST_WINTERS: u64 = 8;
+
+// The most numbers of a lent buffer.
+const MOST_LENT: u64 = 2000;
 
 // ---- telemetered
 
@@ -288,6 +295,60 @@ fn province(s: &[u8], from: Cursor) -> Cursor {
     next
 }
 
+// ---- spreading a reading
+
+// Room for the most numbers. (A call, so that no proof sees them one by one.)
+fn zeros() -> [i64; 2000]
+    ensures { λ r. ⌜ 2000 ≡ length r ⌝ }
+{
+    [0; 2000]
+}
+
+// What a lent buffer holds before a call: -1, -2, -3, ...
+fn lent_buffer() -> [i64; 2000]
+    ensures { λ r. ⌜ 2000 ≡ length r ⌝ }
+{
+    let mut lent = zeros();
+    let mut i = 0;
+    while i < 2000 {
+        lent[i] = -1 - i as i64;
+        i += 1;
+    }
+    lent
+}
+
+// The answer, and the lent numbers after it.
+fn print_spread(reading: u64, weights: &[i64], lent: &mut [i64]) {
+    let answer = reading::spread(reading, weights, lent);
+    match answer {
+        SpreadAnswer::Refused(n) => {
+            output::text(b"refused");
+            output::number(n as u64);
+        }
+        SpreadAnswer::Done => output::text(b"spread"),
+    }
+    output::amounts(lent);
+    output::end();
+}
+
+fn spread(s: &[u8], from: Cursor) -> Cursor {
+    let reading = input::take_number(s, from, 8);
+    let mut days = zeros();
+    let weights = input::take_weights(s, reading.next, &mut days);
+    let n = weights.count;
+    let length = input::take_number(s, weights.next, 2);
+    let next = length.next;
+    if MOST_LENT < length.value {
+        return input::failed(next.at);
+    }
+    if next.ok {
+        let m = length.value as usize;
+        let mut lent = lent_buffer();
+        print_spread(reading.value, &days[..n], &mut lent[..m]);
+    }
+    next
+}
+
 // ---- calendar
 
 fn print_day_type(answer: DayTypeAnswer) {
@@ -360,6 +421,7 @@ fn step(s: &[u8], from: Cursor) -> Cursor {
         6 => degree_days(s, next),
         7 => zone(s, next),
         8 => province(s, next),
+        9 => spread(s, next),
         10 => day_type(s, next),
         11 => month(s, next),
         _ => input::failed(next.at),
