@@ -75,12 +75,12 @@ module _ (n : Number) (most : ℕ) where
   unfolding limited
   no-meaning l = sym (second n (record { value = 0; next = failed (n .next .at) }) (lt-leb (n .value) most l))
 
--- ---- for those who take: a cursor that is good after n bytes has them inside
+-- ---- a cursor that is good after n bytes: they lie inside
 
-pub passed-inside : (s : List ℕ) (c : Cursor) (n : ℕ) → passed s c n .ok ≡ true → (passed s c n .at ≡ c .at + n) × (c .at + n ≤ length s)
+pub passed-inside : (s : List ℕ) (c : Cursor) (n : ℕ) {r : Cursor} → r ≡ passed s c n → r .ok ≡ true → (r .at ≡ c .at + n) × (c .at + n ≤ length s)
 unfolding passed
-passed-inside s c n e = by-cases (c .ok) (leb (c .at + n) (length s)) refl e where
+passed-inside s c n {r} e h = rw e (by-cases (c .ok) (leb (c .at + n) (length s)) refl (rw e at h)) where
   by-cases : (ok b : Bool) → b ≡ leb (c .at + n) (length s) → pick (pick ok b false) (good (c .at + n)) (failed (c .at)) .ok ≡ true → (pick (pick ok b false) (good (c .at + n)) (failed (c .at)) .at ≡ c .at + n) × (c .at + n ≤ length s)
-  by-cases true true h k = (refl, leb-true (c .at + n) (length s) (sym h))
-  by-cases true false h k = never k
-  by-cases false b h k = never k
+  by-cases true true l k = (refl, leb-true (c .at + n) (length s) (sym l))
+  by-cases true false l k = never k
+  by-cases false b l k = never k

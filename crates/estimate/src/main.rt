@@ -1,17 +1,15 @@
 // Runs the calls on supply points and on the calendar with cases from standard input.
-ghost use mathlib.Core.Path.{_≡_};
-ghost use lib.ListN.{length};
-
 mod input;
 mod output;
 
 use calendar::DayType;
 use calendar::DayTypeAnswer;
 use calendar::MonthAnswer;
+use cursor::Cursor;
+use cursor::MOST_LENT;
 use degree_days::DegreeDays;
 use degree_days::ProvinceAnswer;
 use degree_days::ZoneAnswer;
-use input::Cursor;
 use libc::STDIN_FILENO;
 use reading::SpreadAnswer;
 use supply::Amount;
@@ -27,9 +25,6 @@ const MOST_INPUT: usize = 1048576;
 
 // The most lists of winters that are read.
 const MOST_WINTERS: u64 = 8;
-
-// The most numbers of a lent buffer.
-const MOST_LENT: u64 = 2000;
 
 // ---- telemetered
 
@@ -64,7 +59,7 @@ struct TakenFlows {
 }
 
 fn take_flows(s: &[u8], from: Cursor) -> TakenFlows {
-    let kind = input::take_flag(s, from);
+    let kind = cursor::at_most(cursor::take_u8(s, from), 1);
     let of_year = input::take_optional(s, kind.next);
     let of_day = input::take_optional(s, of_year.next);
     let factor = input::take_word(s, of_day.next);
@@ -84,13 +79,13 @@ fn take_flows(s: &[u8], from: Cursor) -> TakenFlows {
 fn telemetered(s: &[u8], from: Cursor) -> Cursor {
     let day = input::take_word(s, from);
     let mut days = [0u32; 4000];
-    let holidays = input::take_list(s, day.next, 2, &mut days);
+    let holidays = input::take_list(s, cursor::take_u16(s, day.next), &mut days);
     let n = holidays.count;
     let reading = input::take_optional(s, holidays.next);
     let own = input::take_optional(s, reading.next);
     let flows = take_flows(s, own.next);
-    let entries = input::take_number(s, flows.next, 2);
-    let count = (entries.value % 65536) as usize;
+    let entries = cursor::take_u16(s, flows.next);
+    let count = entries.value as usize;
     let history = input::take_history(s, entries.next, count);
     let next = history.next;
     if next.ok {
@@ -126,7 +121,7 @@ fn toll_34(s: &[u8], from: Cursor) -> Cursor {
     let last_year = input::take_optional(s, day.next);
     let g = input::take_word(s, last_year.next);
     let mut days = [0u32; 255];
-    let last_days = input::take_list(s, g.next, 1, &mut days);
+    let last_days = input::take_list(s, cursor::take_u8(s, g.next), &mut days);
     let n = last_days.count;
     let last_month = input::take_optional(s, last_days.next);
     let year = input::take_optional(s, last_month.next);
@@ -144,7 +139,7 @@ fn toll_34(s: &[u8], from: Cursor) -> Cursor {
 fn other_toll(s: &[u8], from: Cursor) -> Cursor {
     let day = input::take_word(s, from);
     let mut days = [0u32; 4000];
-    let holidays = input::take_list(s, day.next, 2, &mut days);
+    let holidays = input::take_list(s, cursor::take_u16(s, day.next), &mut days);
     let n = holidays.count;
     let last_year = input::take_optional(s, holidays.next);
     let c_c = input::take_word(s, last_year.next);
@@ -185,9 +180,9 @@ fn pass_winters(s: &[u8], from: Cursor, winters: u64) -> Cursor {
 
 fn type_2(s: &[u8], from: Cursor) -> Cursor {
     let consumers = input::take_word(s, from);
-    let profile = input::take_number(s, consumers.next, 8);
+    let profile = cursor::take_u64(s, consumers.next);
     let g = input::take_word(s, profile.next);
-    let winters = input::take_number(s, g.next, 1);
+    let winters = cursor::at_most(cursor::take_u8(s, g.next), MOST_WINTERS);
     let mut first = [0u32; 255];
     let mut second = [0u32; 255];
     let one = input::take_winter(s, winters.next, 0 < winters.value, &mut first);
@@ -195,11 +190,8 @@ fn type_2(s: &[u8], from: Cursor) -> Cursor {
     let two = input::take_winter(s, one.next, 1 < winters.value, &mut second);
     let n = two.count;
     let next = pass_winters(s, two.next, winters.value);
-    if MOST_WINTERS < winters.value {
-        return input::failed(next.at);
-    }
     if next.ok {
-        let k = (winters.value % 256) as u8;
+        let k = winters.value as u8;
         let answer = supply::profiles::type_2(
             consumers.value,
             profile.value,
@@ -221,8 +213,8 @@ fn print_profile(answer: ProfileAnswer) {
 }
 
 fn profile(s: &[u8], from: Cursor) -> Cursor {
-    let f1 = input::take_number(s, from, 8);
-    let f2 = input::take_number(s, f1.next, 8);
+    let f1 = cursor::take_u64(s, from);
+    let f2 = cursor::take_u64(s, f1.next);
     let nc1 = input::take_word(s, f2.next);
     let nc2 = input::take_word(s, nc1.next);
     let n1 = input::take_word(s, nc2.next);
@@ -297,26 +289,6 @@ fn province(s: &[u8], from: Cursor) -> Cursor {
 
 // ---- spreading a reading
 
-// Room for the most numbers. (A call, so that no proof sees them one by one.)
-fn zeros() -> [i64; 2000]
-    ensures { λ r. ⌜ 2000 ≡ length r ⌝ }
-{
-    [0; 2000]
-}
-
-// What a lent buffer holds before a call: -1, -2, -3, ...
-fn lent_buffer() -> [i64; 2000]
-    ensures { λ r. ⌜ 2000 ≡ length r ⌝ }
-{
-    let mut lent = zeros();
-    let mut i = 0;
-    while i < 2000 {
-        lent[i] = -1 - i as i64;
-        i += 1;
-    }
-    lent
-}
-
 // The answer, and the lent numbers after it.
 fn print_spread(reading: u64, weights: &[i64], lent: &mut [i64]) {
     let answer = reading::spread(reading, weights, lent);
@@ -332,18 +304,15 @@ fn print_spread(reading: u64, weights: &[i64], lent: &mut [i64]) {
 }
 
 fn spread(s: &[u8], from: Cursor) -> Cursor {
-    let reading = input::take_number(s, from, 8);
-    let mut days = zeros();
+    let reading = cursor::take_u64(s, from);
+    let mut days = cursor::lent_room();
     let weights = input::take_weights(s, reading.next, &mut days);
     let n = weights.count;
-    let length = input::take_number(s, weights.next, 2);
+    let length = cursor::at_most(cursor::take_u16(s, weights.next), MOST_LENT as u64);
     let next = length.next;
-    if MOST_LENT < length.value {
-        return input::failed(next.at);
-    }
     if next.ok {
         let m = length.value as usize;
-        let mut lent = lent_buffer();
+        let mut lent = cursor::lent_numbers();
         print_spread(reading.value, &days[..n], &mut lent[..m]);
     }
     next
@@ -365,7 +334,7 @@ fn print_day_type(answer: DayTypeAnswer) {
 fn day_type(s: &[u8], from: Cursor) -> Cursor {
     let day = input::take_word(s, from);
     let mut days = [0u32; 4000];
-    let holidays = input::take_list(s, day.next, 2, &mut days);
+    let holidays = input::take_list(s, cursor::take_u16(s, day.next), &mut days);
     let n = holidays.count;
     let next = holidays.next;
     if next.ok {
@@ -396,7 +365,7 @@ fn print_month(answer: MonthAnswer) {
 fn month(s: &[u8], from: Cursor) -> Cursor {
     let day = input::take_word(s, from);
     let mut days = [0u32; 4000];
-    let holidays = input::take_list(s, day.next, 2, &mut days);
+    let holidays = input::take_list(s, cursor::take_u16(s, day.next), &mut days);
     let n = holidays.count;
     let next = holidays.next;
     if next.ok {
@@ -409,7 +378,7 @@ fn month(s: &[u8], from: Cursor) -> Cursor {
 
 // One operation: its byte and its arguments.
 fn step(s: &[u8], from: Cursor) -> Cursor {
-    let operation = input::take_number(s, from, 1);
+    let operation = cursor::take_u8(s, from);
     let next = operation.next;
     let byte = operation.value;
     match byte {
@@ -424,20 +393,20 @@ fn step(s: &[u8], from: Cursor) -> Cursor {
         9 => spread(s, next),
         10 => day_type(s, next),
         11 => month(s, next),
-        _ => input::failed(next.at),
+        _ => cursor::failed(next.at),
     }
 }
 
 // The operations one after the other, each at least one byte long.
 fn run(s: &[u8]) {
-    let mut cursor = Cursor { at: 0, ok: true };
+    let mut next = Cursor { at: 0, ok: true };
     let mut turns = s.len();
     while 0 < turns {
-        if s.len() <= cursor.at {
+        if s.len() <= next.at {
             return;
         }
-        cursor = step(s, cursor);
-        if !cursor.ok {
+        next = step(s, next);
+        if !next.ok {
             output::malformed();
             return;
         }

@@ -1,12 +1,11 @@
 // Runs calls on one point-day from standard input: an operation is a byte and its arguments, little-endian.
-ghost use mathlib.Core.Path.{_≡_};
 ghost use Prim.Native.Nat.{_<_};
-ghost use lib.ListN.{length};
 
 mod input;
 mod output;
 
-use input::Cursor;
+use cursor::Cursor;
+use cursor::MOST_LENT;
 use inventory::InventoryAnswer;
 use libc::STDIN_FILENO;
 use libc::STDOUT_FILENO;
@@ -19,15 +18,11 @@ use point_day::PointDay;
 use point_day::ReviseAnswer;
 use point_day::Stage;
 use point_day::StandInAnswer;
-use point_day::StandInRows;
 use point_day::StartFinalAnswer;
 use report_text::TEXT_ROOM;
 
 // The most bytes of input.
 const MOST: usize = 1048576;
-
-// The most numbers of a lent buffer.
-const MOST_LENT: u64 = 2000;
 
 // The place after an operation, and the point-day after it.
 struct Outcome {
@@ -35,29 +30,15 @@ struct Outcome {
     day: PointDay,
 }
 
-// The rows of a stand-in, and the place after them.
-struct TakenRows {
-    rows: StandInRows,
-    next: Cursor,
-}
-
-fn no_rows() -> StandInRows {
-    StandInRows {
-        counts: [0; 15],
-        users: [0; 960],
-        amounts: [0; 960],
-    }
-}
-
 // ---- join, line, measure
 
 fn join(s: &[u8], from: Cursor, day: PointDay) -> Outcome {
-    let user = input::take_number(s, from, 2);
+    let user = cursor::take_u16(s, from);
     let next = user.next;
     if !next.ok {
         return Outcome { next, day };
     }
-    let r = entry::join(day, (user.value % 65536) as u16);
+    let r = entry::join(day, user.value as u16);
     let after = r.day;
     let answer = r.answer;
     match answer {
@@ -65,30 +46,6 @@ fn join(s: &[u8], from: Cursor, day: PointDay) -> Outcome {
         JoinAnswer::Done => output::text(b"join\n"),
     }
     Outcome { next, day: after }
-}
-
-// The arguments of a line.
-struct LineArguments {
-    user: u16,
-    kind: u8,
-    consumption: u64,
-    coefficient: u64,
-    next: Cursor,
-}
-
-fn take_line(s: &[u8], from: Cursor) -> LineArguments {
-    let user = input::take_number(s, from, 2);
-    let kind = input::take_number(s, user.next, 1);
-    let consumption = input::take_number(s, kind.next, 8);
-    let coefficient = input::take_number(s, consumption.next, 4);
-    let next = coefficient.next;
-    LineArguments {
-        user: (user.value % 65536) as u16,
-        kind: (kind.value % 256) as u8,
-        consumption: consumption.value,
-        coefficient: coefficient.value,
-        next,
-    }
 }
 
 fn print_line(name: &[u8], answer: LineAnswer) {
@@ -103,7 +60,7 @@ fn print_line(name: &[u8], answer: LineAnswer) {
 }
 
 fn line(s: &[u8], from: Cursor, day: PointDay) -> Outcome {
-    let a = take_line(s, from);
+    let a = input::take_line(s, from);
     let next = a.next;
     if !next.ok {
         return Outcome { next, day };
@@ -116,7 +73,7 @@ fn line(s: &[u8], from: Cursor, day: PointDay) -> Outcome {
 }
 
 fn edit(s: &[u8], from: Cursor, day: PointDay) -> Outcome {
-    let a = take_line(s, from);
+    let a = input::take_line(s, from);
     let next = a.next;
     if !next.ok {
         return Outcome { next, day };
@@ -129,8 +86,8 @@ fn edit(s: &[u8], from: Cursor, day: PointDay) -> Outcome {
 }
 
 fn measure(s: &[u8], from: Cursor, day: PointDay) -> Outcome {
-    let emission = input::take_number(s, from, 8);
-    let downstream = input::take_number(s, emission.next, 8);
+    let emission = cursor::take_u64(s, from);
+    let downstream = cursor::take_u64(s, emission.next);
     let next = downstream.next;
     if !next.ok {
         return Outcome { next, day };
@@ -178,51 +135,8 @@ fn revise(next: Cursor, day: PointDay) -> Outcome {
     Outcome { next, day: after }
 }
 
-// Row i of a stand-in: its count, and as many pairs; those past the 64th are passed over.
-fn take_row(s: &[u8], from: Cursor, i: usize, rows: StandInRows) -> TakenRows
-    requires { ⌜ i < 15 ⌝ }
-{
-    let n = input::take_number(s, from, 2);
-    let count = (n.value % 65536) as usize;
-    let mut filled = rows;
-    let mut next = n.next;
-    filled.counts[i] = count;
-    let mut j = 0;
-    while j < 64 {
-        if count <= j {
-            return TakenRows { rows: filled, next };
-        }
-        let user = input::take_number(s, next, 2);
-        let amount = input::take_number(s, user.next, 8);
-        filled.users[64 * i + j] = (user.value % 65536) as u16;
-        filled.amounts[64 * i + j] = wire::to_signed(amount.value);
-        next = amount.next;
-        j += 1;
-    }
-    let past = input::pass(s, next, 10 * (count - 64));
-    TakenRows {
-        rows: filled,
-        next: past,
-    }
-}
-
-fn take_rows(s: &[u8], from: Cursor) -> TakenRows {
-    let mut rows = TakenRows {
-        rows: no_rows(),
-        next: from,
-    };
-    let mut i = 0;
-    while i < 15 {
-        let next = rows.next;
-        let filled = rows.rows;
-        rows = take_row(s, next, i, filled);
-        i += 1;
-    }
-    rows
-}
-
 fn stand_in(s: &[u8], from: Cursor, day: PointDay) -> Outcome {
-    let taken = take_rows(s, from);
+    let taken = input::take_rows(s, from);
     let next = taken.next;
     if !next.ok {
         return Outcome { next, day };
@@ -341,12 +255,12 @@ fn measurement_of(measured: u64, emission: u64, downstream: u64) -> Measurement 
 }
 
 fn load(s: &[u8], from: Cursor, day: PointDay) -> Outcome {
-    let tag = input::take_flag(s, from, 3);
-    let allotted = input::take_flag(s, tag.next, 2);
-    let measured = input::take_flag(s, allotted.next, 2);
-    let emission = input::take_number(s, measured.next, 8);
-    let downstream = input::take_number(s, emission.next, 8);
-    let count = input::take_number(s, downstream.next, 2);
+    let tag = cursor::at_most(cursor::take_u8(s, from), 2);
+    let allotted = cursor::at_most(cursor::take_u8(s, tag.next), 1);
+    let measured = cursor::at_most(cursor::take_u8(s, allotted.next), 1);
+    let emission = cursor::take_u64(s, measured.next);
+    let downstream = cursor::take_u64(s, emission.next);
+    let count = cursor::take_u16(s, downstream.next);
     let mut users = day.users;
     let mut consumption = day.consumption;
     let mut losses = day.losses;
@@ -367,7 +281,7 @@ fn load(s: &[u8], from: Cursor, day: PointDay) -> Outcome {
         stage,
         allotted: allotted.value == 1,
         measurement,
-        count: (count.value % 65536) as usize,
+        count: count.value as usize,
         users,
         consumption,
         losses,
@@ -378,26 +292,6 @@ fn load(s: &[u8], from: Cursor, day: PointDay) -> Outcome {
 }
 
 // ---- inventory and day file
-
-// Room for the most numbers. (A call, so that no proof sees them one by one.)
-fn zeros() -> [i64; 2000]
-    ensures { λ r. ⌜ 2000 ≡ length r ⌝ }
-{
-    [0; 2000]
-}
-
-// What a lent buffer holds before a call: -1, -2, -3, ...
-fn lent_buffer() -> [i64; 2000]
-    ensures { λ r. ⌜ 2000 ≡ length r ⌝ }
-{
-    let mut lent = zeros();
-    let mut i = 0;
-    while i < 2000 {
-        lent[i] = -1 - i as i64;
-        i += 1;
-    }
-    lent
-}
 
 // The answer, and the lent numbers after it.
 fn print_inventory(day: PointDay, lent: &mut [i64]) {
@@ -417,14 +311,11 @@ fn print_inventory(day: PointDay, lent: &mut [i64]) {
 }
 
 fn inventory(s: &[u8], from: Cursor, day: PointDay) -> Cursor {
-    let length = input::take_number(s, from, 2);
+    let length = cursor::at_most(cursor::take_u16(s, from), MOST_LENT as u64);
     let next = length.next;
-    if MOST_LENT < length.value {
-        return input::failed(next.at);
-    }
     if next.ok {
         let m = length.value as usize;
-        let mut lent = lent_buffer();
+        let mut lent = cursor::lent_numbers();
         print_inventory(day, &mut lent[..m]);
     }
     next
@@ -437,28 +328,22 @@ fn print_report(file: &[u8]) {
 }
 
 fn day_file(s: &[u8], from: Cursor) -> Cursor {
-    let length = input::take_number(s, from, 4);
+    let length = cursor::take_u32(s, from);
     let start = length.next;
-    let at = start.at;
-    let bytes = (length.value % 4294967296) as usize;
-    if !start.ok {
-        return start;
+    let next = cursor::pass(s, start, length.value as usize);
+    if next.ok {
+        let at = start.at;
+        let end = next.at;
+        print_report(&s[at..end]);
     }
-    if s.len() < at {
-        return input::failed(at);
-    }
-    if s.len() - at < bytes {
-        return input::failed(at);
-    }
-    print_report(&s[at..at + bytes]);
-    input::pass(s, start, bytes)
+    next
 }
 
 // ---- the run
 
 // One operation: its byte and its arguments.
 fn step(s: &[u8], from: Cursor, day: PointDay) -> Outcome {
-    let operation = input::take_number(s, from, 1);
+    let operation = cursor::take_u8(s, from);
     let next = operation.next;
     let byte = operation.value;
     match byte {
@@ -491,7 +376,7 @@ fn step(s: &[u8], from: Cursor, day: PointDay) -> Outcome {
             Outcome { next: after, day }
         }
         _ => Outcome {
-            next: input::failed(next.at),
+            next: cursor::failed(next.at),
             day,
         },
     }
@@ -499,17 +384,17 @@ fn step(s: &[u8], from: Cursor, day: PointDay) -> Outcome {
 
 // The operations one after the other, each at least one byte long.
 fn run(s: &[u8]) {
-    let mut cursor = Cursor { at: 0, ok: true };
+    let mut next = Cursor { at: 0, ok: true };
     let mut day = point_day::fresh_day();
     let mut turns = s.len();
     while 0 < turns {
-        if s.len() <= cursor.at {
+        if s.len() <= next.at {
             return;
         }
-        let done = step(s, cursor, day);
+        let done = step(s, next, day);
         day = done.day;
-        cursor = done.next;
-        if !cursor.ok {
+        next = done.next;
+        if !next.ok {
             output::malformed();
             return;
         }

@@ -6,17 +6,14 @@ use borrow.Author.Needs.{needs}
 use Rattle.replay.proofs.inventory.Statement.{statement}
 use Rattle.replay.proofs.inventory.Tie as tie
 
-take-number-requires : tie.Need-take-number-requires
-take-number-requires c κs = search needs
+take-u16-requires : tie.Need-take-u16-requires
+take-u16-requires c κs = search needs
 
-failed-requires : tie.Need-failed-requires
-failed-requires c κs = search needs
+at-most-requires : tie.Need-at-most-requires
+at-most-requires c κs = search needs
 
-returns : tie.Need-returns
-returns c = search needs
-
-lent-buffer-requires : tie.Need-lent-buffer-requires
-lent-buffer-requires c κs = search needs
+lent-numbers-requires : tie.Need-lent-numbers-requires
+lent-numbers-requires c κs = search needs
 
 array-borrow-prefix-lent : tie.Need-array-borrow-prefix-lent
 array-borrow-prefix-lent c = search needs
@@ -27,22 +24,21 @@ slice-aggregate-print-inventory c = sym (length-take-le _ _ (omega arith))
 print-inventory-requires : tie.Need-print-inventory-requires
 print-inventory-requires c κs = search needs
 
+returns : tie.Need-returns
+returns c = search needs
+
 returns-2 : tie.Need-returns-2
 returns-2 c = search needs
-
-returns-3 : tie.Need-returns-3
-returns-3 c = search needs
 
 pub inventory-spec : {M : Type 1} → statement M
 inventory-spec =
     tie.close
     (tie.spec
-    take-number-requires
-    failed-requires
-    returns
-    lent-buffer-requires
+    take-u16-requires
+    at-most-requires
+    lent-numbers-requires
     array-borrow-prefix-lent
     slice-aggregate-print-inventory
     print-inventory-requires
-    returns-2
-    returns-3)
+    returns
+    returns-2)
