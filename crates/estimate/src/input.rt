@@ -74,6 +74,19 @@ fn take_words(s: &[u8], from: Cursor, list: &mut [u32]) -> Cursor {
     next
 }
 
+// Room for the lists. (Calls, so that no proof sees their numbers one by one.)
+pub fn holiday_room() -> [u32; 4000]
+    ensures { λ r. ⌜ 4000 ≡ length r ⌝ }
+{
+    [0; 4000]
+}
+
+pub fn degree_day_room() -> [u32; 255]
+    ensures { λ r. ⌜ 255 ≡ length r ⌝ }
+{
+    [0; 255]
+}
+
 // The next list, whose count has been read: that many u32s. More than the list has places is malformed.
 pub fn take_list(s: &[u8], count: Number, into: &mut [u32]) -> List
     ensures { λ r. ⌜ Counts (r .count) (now (into .exit)) ⌝ }

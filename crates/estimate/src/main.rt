@@ -78,7 +78,7 @@ fn take_flows(s: &[u8], from: Cursor) -> TakenFlows {
 
 fn telemetered(s: &[u8], from: Cursor) -> Cursor {
     let day = input::take_word(s, from);
-    let mut days = [0u32; 4000];
+    let mut days = input::holiday_room();
     let holidays = input::take_list(s, cursor::take_u16(s, day.next), &mut days);
     let n = holidays.count;
     let reading = input::take_optional(s, holidays.next);
@@ -120,7 +120,7 @@ fn toll_34(s: &[u8], from: Cursor) -> Cursor {
     let day = input::take_word(s, from);
     let last_year = input::take_optional(s, day.next);
     let g = input::take_word(s, last_year.next);
-    let mut days = [0u32; 255];
+    let mut days = input::degree_day_room();
     let last_days = input::take_list(s, cursor::take_u8(s, g.next), &mut days);
     let n = last_days.count;
     let last_month = input::take_optional(s, last_days.next);
@@ -138,7 +138,7 @@ fn toll_34(s: &[u8], from: Cursor) -> Cursor {
 
 fn other_toll(s: &[u8], from: Cursor) -> Cursor {
     let day = input::take_word(s, from);
-    let mut days = [0u32; 4000];
+    let mut days = input::holiday_room();
     let holidays = input::take_list(s, cursor::take_u16(s, day.next), &mut days);
     let n = holidays.count;
     let last_year = input::take_optional(s, holidays.next);
@@ -183,8 +183,8 @@ fn type_2(s: &[u8], from: Cursor) -> Cursor {
     let profile = cursor::take_u64(s, consumers.next);
     let g = input::take_word(s, profile.next);
     let winters = cursor::at_most(cursor::take_u8(s, g.next), MOST_WINTERS);
-    let mut first = [0u32; 255];
-    let mut second = [0u32; 255];
+    let mut first = input::degree_day_room();
+    let mut second = input::degree_day_room();
     let one = input::take_winter(s, winters.next, 0 < winters.value, &mut first);
     let m = one.count;
     let two = input::take_winter(s, one.next, 1 < winters.value, &mut second);
@@ -333,7 +333,7 @@ fn print_day_type(answer: DayTypeAnswer) {
 
 fn day_type(s: &[u8], from: Cursor) -> Cursor {
     let day = input::take_word(s, from);
-    let mut days = [0u32; 4000];
+    let mut days = input::holiday_room();
     let holidays = input::take_list(s, cursor::take_u16(s, day.next), &mut days);
     let n = holidays.count;
     let next = holidays.next;
@@ -364,7 +364,7 @@ fn print_month(answer: MonthAnswer) {
 
 fn month(s: &[u8], from: Cursor) -> Cursor {
     let day = input::take_word(s, from);
-    let mut days = [0u32; 4000];
+    let mut days = input::holiday_room();
     let holidays = input::take_list(s, cursor::take_u16(s, day.next), &mut days);
     let n = holidays.count;
     let next = holidays.next;

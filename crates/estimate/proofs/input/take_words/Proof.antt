@@ -1,4 +1,4 @@
--- `estimate::input::take_words` meets its contract. It is safe and ends: `i` rises to the list's length, which stays. Assumes nothing.
+-- `estimate::input::take_words` is safe and ends: `i` rises to the list's length, which stays. Assumes nothing.
 use mathlib.Core.Path.{_≡_, refl}
 use Prim.Native.Nat.{_-_, _≤_}
 use native.Mathlib.Omega.{arith}

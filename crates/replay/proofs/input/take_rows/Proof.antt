@@ -1,7 +1,6 @@
--- `replay::input::take_rows` is safe and ends. Assumes nothing.
+-- `replay::input::take_rows` is safe and ends: `i` rises to 15. Assumes nothing.
 use Prim.Native.Nat.{_-_, _≤_}
 use borrow.Author.Needs.{needs}
-use native.Mathlib.Omega.{arith}
 use Rattle.replay.proofs.input.take_rows.Statement.{statement}
 use Rattle.replay.proofs.input.take_rows.Tie as tie
 

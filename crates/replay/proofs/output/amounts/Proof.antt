@@ -1,4 +1,4 @@
--- `replay::output::amounts` is safe and ends. Assumes nothing.
+-- `replay::output::amounts` is safe and ends: `i` rises to the length. Assumes nothing.
 use Prim.Native.Nat.{_-_, _≤_}
 use lib.ListN.{length}
 use borrow.Author.Needs.{needs}
