@@ -1,6 +1,10 @@
 // Numbers, lists and histories from the input, little-endian.
+ghost use mathlib.Core.Path.{_≡_};
 ghost use Prim.Native.Nat.{_≤_};
+ghost use lib.ListN.{length, take};
 ghost use Rattle.io.specs.Counts.{Counts};
+use cursor::Cursor;
+use cursor::Number;
 use supply::Amount;
 use supply::ENTRIES;
 use supply::Entry;
@@ -8,17 +12,6 @@ use supply::Reading;
 
 // The bytes of an entry: its tag and its value.
 const ENTRY_BYTES: usize = 9;
-
-// A place in the input, and whether all that was asked for so far was there and had a meaning.
-pub struct Cursor {
-    pub at: usize,
-    pub ok: bool,
-}
-
-pub struct Number {
-    pub value: u64,
-    pub next: Cursor,
-}
 
 pub struct Word {
     pub value: u32,
@@ -40,103 +33,19 @@ pub struct History {
     pub next: Cursor,
 }
 
-// Nothing more is to be read.
-pub fn failed(at: usize) -> Cursor {
-    Cursor { at, ok: false }
-}
-
-// The number that up to eight bytes spell.
-fn spelled(bytes: &[u8]) -> u64 {
-    let mut value: u64 = 0;
-    let mut i = bytes.len();
-    while 0 < i {
-        i -= 1;
-        value = (value << 8) | wide(bytes[i]);
-    }
-    value
-}
-
-fn wide(byte: u8) -> u64 {
-    byte as u64
-}
-
-// The next bytes as a number.
-pub fn take_number(input: &[u8], from: Cursor, bytes: usize) -> Number {
-    let at = from.at;
-    if !from.ok {
-        return Number {
-            value: 0,
-            next: failed(at),
-        };
-    }
-    if input.len() < at {
-        return Number {
-            value: 0,
-            next: failed(at),
-        };
-    }
-    if input.len() - at < bytes {
-        return Number {
-            value: 0,
-            next: failed(at),
-        };
-    }
-    Number {
-        value: spelled(&input[at..at + bytes]),
-        next: Cursor {
-            at: at + bytes,
-            ok: true,
-        },
-    }
-}
-
 // The next u32.
-pub fn take_word(input: &[u8], from: Cursor) -> Word {
-    let n = take_number(input, from, 4);
+pub fn take_word(s: &[u8], from: Cursor) -> Word {
+    let n = cursor::take_u32(s, from);
     let next = n.next;
     Word {
-        value: (n.value % 4294967296) as u32,
-        next,
-    }
-}
-
-// Passes over some bytes.
-fn pass(input: &[u8], from: Cursor, bytes: usize) -> Cursor {
-    let at = from.at;
-    if !from.ok {
-        return failed(at);
-    }
-    if input.len() < at {
-        return failed(at);
-    }
-    if input.len() - at < bytes {
-        return failed(at);
-    }
-    Cursor {
-        at: at + bytes,
-        ok: true,
-    }
-}
-
-// The next flag: 0 or 1.
-pub fn take_flag(input: &[u8], from: Cursor) -> Number {
-    let n = take_number(input, from, 1);
-    let next = n.next;
-    if 1 < n.value {
-        return Number {
-            value: 0,
-            next: failed(next.at),
-        };
-    }
-    Number {
-        value: n.value,
+        value: n.value as u32,
         next,
     }
 }
 
 // The next optional value.
-pub fn take_optional(input: &[u8], from: Cursor) -> Optional {
-    let there = take_flag(input, from);
+pub fn take_optional(s: &[u8], from: Cursor) -> Optional {
+    let there = cursor::at_most(cursor::take_u8(s, from), 1);
     let next = there.next;
     if there.value == 0 {
         return Optional {
@@ -144,7 +53,7 @@ pub fn take_optional(input: &[u8], from: Cursor) -> Optional {
             next,
         };
     }
-    let n = take_number(input, next, 8);
+    let n = cursor::take_u64(s, next);
     let after = n.next;
     Optional {
         amount: Amount::Known(n.value),
@@ -153,11 +62,11 @@ pub fn take_optional(input: &[u8], from: Cursor) -> Optional {
 }
 
 // The next u32s, as many as the list has places.
-fn take_words(input: &[u8], from: Cursor, list: &mut [u32]) -> Cursor {
+fn take_words(s: &[u8], from: Cursor, list: &mut [u32]) -> Cursor {
     let mut next = from;
     let mut i = 0;
     while i < list.len() {
-        let w = take_word(input, next);
+        let w = take_word(s, next);
         list[i] = w.value;
         next = w.next;
         i += 1;
@@ -165,35 +74,51 @@ fn take_words(input: &[u8], from: Cursor, list: &mut [u32]) -> Cursor {
     next
 }
 
-// The next list: a count of so many bytes, and that many u32s. More than the list has places is malformed.
-pub fn take_list(input: &[u8], from: Cursor, bytes: usize, into: &mut [u32]) -> List
+// Room for the lists. (Calls, so that no proof sees their numbers one by one.)
+pub fn holiday_room() -> [u32; 4000]
+    ensures { λ r. ⌜ 4000 ≡ length r ⌝ }
+{
+    [0; 4000]
+}
+
+pub fn degree_day_room() -> [u32; 255]
+    ensures { λ r. ⌜ 255 ≡ length r ⌝ }
+{
+    [0; 255]
+}
+
+// The next list, whose count has been read: that many u32s. More than the list has places is malformed.
+pub fn take_list(s: &[u8], count: Number, into: &mut [u32]) -> List
     ensures { λ r. ⌜ Counts (r .count) (now (into .exit)) ⌝ }
 {
-    let n = take_number(input, from, bytes);
-    let next = n.next;
-    if (into.len() as u64) < n.value {
-        return List {
-            count: 0,
-            next: failed(next.at),
-        };
-    }
+    let n = cursor::at_most(count, into.len() as u64);
     let count = n.value as usize;
-    let after = take_words(input, next, &mut into[..count]);
-    List { count, next: after }
+    let next = take_words(s, n.next, &mut into[..count]);
+    List { count, next }
+}
+
+// The next list of weights: a count of two bytes, and that many i64s. More than the list has places is malformed.
+pub fn take_weights(s: &[u8], from: Cursor, into: &mut [i64]) -> List
+    ensures { λ r. ⌜ (r .count ≤ length (now (into .exit))) × (r .count ≡ length (take (r .count) (now (into .exit)))) ⌝ }
+{
+    let n = cursor::at_most(cursor::take_u16(s, from), into.len() as u64);
+    let count = n.value as usize;
+    let next = cursor::take_amounts(s, n.next, &mut into[..count]);
+    List { count, next }
 }
 
 // Passes over a list whose count is one byte.
-pub fn pass_list(input: &[u8], from: Cursor) -> Cursor {
-    let n = take_number(input, from, 1);
-    pass(input, n.next, 4 * (n.value % 256) as usize)
+pub fn pass_list(s: &[u8], from: Cursor) -> Cursor {
+    let n = cursor::take_u8(s, from);
+    cursor::pass(s, n.next, 4 * n.value as usize)
 }
 
 // The next list of a winter's degree days, if there is one.
-pub fn take_winter(input: &[u8], from: Cursor, there: bool, into: &mut [u32]) -> List
+pub fn take_winter(s: &[u8], from: Cursor, there: bool, into: &mut [u32]) -> List
     ensures { λ r. ⌜ Counts (r .count) (now (into .exit)) ⌝ }
 {
     if there {
-        return take_list(input, from, 1, into);
+        return take_list(s, cursor::take_u8(s, from), into);
     }
     List {
         count: 0,
@@ -220,24 +145,8 @@ fn reading(tag: u64, value: u64) -> Reading {
     }
 }
 
-// The next tag: 0 to 3.
-fn take_tag(input: &[u8], from: Cursor) -> Number {
-    let n = take_number(input, from, 1);
-    let next = n.next;
-    if 3 < n.value {
-        return Number {
-            value: 0,
-            next: failed(next.at),
-        };
-    }
-    Number {
-        value: n.value,
-        next,
-    }
-}
-
 // The next entries of a history.
-fn take_entries(input: &[u8], from: Cursor, count: usize) -> History
+fn take_entries(s: &[u8], from: Cursor, count: usize) -> History
     requires { ⌜ count ≤ 400 ⌝ }
 {
     let mut kept = [Entry {
@@ -246,8 +155,8 @@ fn take_entries(input: &[u8], from: Cursor, count: usize) -> History
     let mut next = from;
     let mut i = 0;
     while i < count {
-        let t = take_tag(input, next);
-        let v = take_number(input, t.next, 8);
+        let t = cursor::at_most(cursor::take_u8(s, next), 3);
+        let v = cursor::take_u64(s, t.next);
         let entry = Entry {
             reading: reading(t.value, v.value),
         };
@@ -262,15 +171,15 @@ fn take_entries(input: &[u8], from: Cursor, count: usize) -> History
 }
 
 // The next history, whose count has been read.
-pub fn take_history(input: &[u8], from: Cursor, count: usize) -> History
+pub fn take_history(s: &[u8], from: Cursor, count: usize) -> History
     requires { ⌜ count ≤ 65535 ⌝ }
 {
     if count <= ENTRIES {
-        return take_entries(input, from, count);
+        return take_entries(s, from, count);
     }
-    let h = take_entries(input, from, ENTRIES);
+    let h = take_entries(s, from, ENTRIES);
     let kept = h.entries;
-    let after = pass(input, h.next, ENTRY_BYTES * (count - ENTRIES));
+    let after = cursor::pass(s, h.next, ENTRY_BYTES * (count - ENTRIES));
     History {
         entries: kept,
         next: after,

@@ -5,11 +5,13 @@ mod output;
 use calendar::DayType;
 use calendar::DayTypeAnswer;
 use calendar::MonthAnswer;
+use cursor::Cursor;
+use cursor::MOST_LENT;
 use degree_days::DegreeDays;
 use degree_days::ProvinceAnswer;
 use degree_days::ZoneAnswer;
-use input::Cursor;
 use libc::STDIN_FILENO;
+use reading::SpreadAnswer;
 use supply::Amount;
 use supply::ConsumptionAnswer;
 use supply::Flows;
@@ -57,7 +59,7 @@ struct TakenFlows {
 }
 
 fn take_flows(s: &[u8], from: Cursor) -> TakenFlows {
-    let kind = input::take_flag(s, from);
+    let kind = cursor::at_most(cursor::take_u8(s, from), 1);
     let of_year = input::take_optional(s, kind.next);
     let of_day = input::take_optional(s, of_year.next);
     let factor = input::take_word(s, of_day.next);
@@ -76,14 +78,14 @@ fn take_flows(s: &[u8], from: Cursor) -> TakenFlows {
 
 fn telemetered(s: &[u8], from: Cursor) -> Cursor {
     let day = input::take_word(s, from);
-    let mut days = [0u32; 4000];
-    let holidays = input::take_list(s, day.next, 2, &mut days);
+    let mut days = input::holiday_room();
+    let holidays = input::take_list(s, cursor::take_u16(s, day.next), &mut days);
     let n = holidays.count;
     let reading = input::take_optional(s, holidays.next);
     let own = input::take_optional(s, reading.next);
     let flows = take_flows(s, own.next);
-    let entries = input::take_number(s, flows.next, 2);
-    let count = (entries.value % 65536) as usize;
+    let entries = cursor::take_u16(s, flows.next);
+    let count = entries.value as usize;
     let history = input::take_history(s, entries.next, count);
     let next = history.next;
     if next.ok {
@@ -118,8 +120,8 @@ fn toll_34(s: &[u8], from: Cursor) -> Cursor {
     let day = input::take_word(s, from);
     let last_year = input::take_optional(s, day.next);
     let g = input::take_word(s, last_year.next);
-    let mut days = [0u32; 255];
-    let last_days = input::take_list(s, g.next, 1, &mut days);
+    let mut days = input::degree_day_room();
+    let last_days = input::take_list(s, cursor::take_u8(s, g.next), &mut days);
     let n = last_days.count;
     let last_month = input::take_optional(s, last_days.next);
     let year = input::take_optional(s, last_month.next);
@@ -136,8 +138,8 @@ fn toll_34(s: &[u8], from: Cursor) -> Cursor {
 
 fn other_toll(s: &[u8], from: Cursor) -> Cursor {
     let day = input::take_word(s, from);
-    let mut days = [0u32; 4000];
-    let holidays = input::take_list(s, day.next, 2, &mut days);
+    let mut days = input::holiday_room();
+    let holidays = input::take_list(s, cursor::take_u16(s, day.next), &mut days);
     let n = holidays.count;
     let last_year = input::take_optional(s, holidays.next);
     let c_c = input::take_word(s, last_year.next);
@@ -178,21 +180,18 @@ fn pass_winters(s: &[u8], from: Cursor, winters: u64) -> Cursor {
 
 fn type_2(s: &[u8], from: Cursor) -> Cursor {
     let consumers = input::take_word(s, from);
-    let profile = input::take_number(s, consumers.next, 8);
+    let profile = cursor::take_u64(s, consumers.next);
     let g = input::take_word(s, profile.next);
-    let winters = input::take_number(s, g.next, 1);
-    let mut first = [0u32; 255];
-    let mut second = [0u32; 255];
+    let winters = cursor::at_most(cursor::take_u8(s, g.next), MOST_WINTERS);
+    let mut first = input::degree_day_room();
+    let mut second = input::degree_day_room();
     let one = input::take_winter(s, winters.next, 0 < winters.value, &mut first);
     let m = one.count;
     let two = input::take_winter(s, one.next, 1 < winters.value, &mut second);
     let n = two.count;
     let next = pass_winters(s, two.next, winters.value);
-    if MOST_WINTERS < winters.value {
-        return input::failed(next.at);
-    }
     if next.ok {
-        let k = (winters.value % 256) as u8;
+        let k = winters.value as u8;
         let answer = supply::profiles::type_2(
             consumers.value,
             profile.value,
@@ -214,8 +213,8 @@ fn print_profile(answer: ProfileAnswer) {
 }
 
 fn profile(s: &[u8], from: Cursor) -> Cursor {
-    let f1 = input::take_number(s, from, 8);
-    let f2 = input::take_number(s, f1.next, 8);
+    let f1 = cursor::take_u64(s, from);
+    let f2 = cursor::take_u64(s, f1.next);
     let nc1 = input::take_word(s, f2.next);
     let nc2 = input::take_word(s, nc1.next);
     let n1 = input::take_word(s, nc2.next);
@@ -288,6 +287,37 @@ fn province(s: &[u8], from: Cursor) -> Cursor {
     next
 }
 
+// ---- spreading a reading
+
+// The answer, and the lent numbers after it.
+fn print_spread(reading: u64, weights: &[i64], lent: &mut [i64]) {
+    let answer = reading::spread(reading, weights, lent);
+    match answer {
+        SpreadAnswer::Refused(n) => {
+            output::text(b"refused");
+            output::number(n as u64);
+        }
+        SpreadAnswer::Done => output::text(b"spread"),
+    }
+    output::amounts(lent);
+    output::end();
+}
+
+fn spread(s: &[u8], from: Cursor) -> Cursor {
+    let reading = cursor::take_u64(s, from);
+    let mut days = cursor::lent_room();
+    let weights = input::take_weights(s, reading.next, &mut days);
+    let n = weights.count;
+    let length = cursor::at_most(cursor::take_u16(s, weights.next), MOST_LENT as u64);
+    let next = length.next;
+    if next.ok {
+        let m = length.value as usize;
+        let mut lent = cursor::lent_numbers();
+        print_spread(reading.value, &days[..n], &mut lent[..m]);
+    }
+    next
+}
+
 // ---- calendar
 
 fn print_day_type(answer: DayTypeAnswer) {
@@ -303,8 +333,8 @@ fn print_day_type(answer: DayTypeAnswer) {
 
 fn day_type(s: &[u8], from: Cursor) -> Cursor {
     let day = input::take_word(s, from);
-    let mut days = [0u32; 4000];
-    let holidays = input::take_list(s, day.next, 2, &mut days);
+    let mut days = input::holiday_room();
+    let holidays = input::take_list(s, cursor::take_u16(s, day.next), &mut days);
     let n = holidays.count;
     let next = holidays.next;
     if next.ok {
@@ -334,8 +364,8 @@ fn print_month(answer: MonthAnswer) {
 
 fn month(s: &[u8], from: Cursor) -> Cursor {
     let day = input::take_word(s, from);
-    let mut days = [0u32; 4000];
-    let holidays = input::take_list(s, day.next, 2, &mut days);
+    let mut days = input::holiday_room();
+    let holidays = input::take_list(s, cursor::take_u16(s, day.next), &mut days);
     let n = holidays.count;
     let next = holidays.next;
     if next.ok {
@@ -348,7 +378,7 @@ fn month(s: &[u8], from: Cursor) -> Cursor {
 
 // One operation: its byte and its arguments.
 fn step(s: &[u8], from: Cursor) -> Cursor {
-    let operation = input::take_number(s, from, 1);
+    let operation = cursor::take_u8(s, from);
     let next = operation.next;
     let byte = operation.value;
     match byte {
@@ -360,22 +390,23 @@ fn step(s: &[u8], from: Cursor) -> Cursor {
         6 => degree_days(s, next),
         7 => zone(s, next),
         8 => province(s, next),
+        9 => spread(s, next),
         10 => day_type(s, next),
         11 => month(s, next),
-        _ => input::failed(next.at),
+        _ => cursor::failed(next.at),
     }
 }
 
 // The operations one after the other, each at least one byte long.
 fn run(s: &[u8]) {
-    let mut cursor = Cursor { at: 0, ok: true };
+    let mut next = Cursor { at: 0, ok: true };
     let mut turns = s.len();
     while 0 < turns {
-        if s.len() <= cursor.at {
+        if s.len() <= next.at {
             return;
         }
-        cursor = step(s, cursor);
-        if !cursor.ok {
+        next = step(s, next);
+        if !next.ok {
             output::malformed();
             return;
         }

@@ -5,6 +5,24 @@ pub fn text(bytes: &[u8]) {
     io::write_all(STDOUT_FILENO, bytes);
 }
 
+// A space and a number.
+fn amount(x: i64) {
+    text(b" ");
+    if x < 0 {
+        text(b"-");
+    }
+    io::print_decimal(STDOUT_FILENO, wire::magnitude(x));
+}
+
+// Each with a space before it.
+pub fn amounts(xs: &[i64]) {
+    let mut i = 0;
+    while i < xs.len() {
+        amount(xs[i]);
+        i += 1;
+    }
+}
+
 pub fn number(n: u64) {
     text(b" ");
     io::print_decimal(STDOUT_FILENO, n);

@@ -1,11 +1,10 @@
 // Prorations from standard input. A case is an i64 amount, a u16 count of parties, a u32 weight for each and a u32 key for
 // each, little-endian; its shares are a line of output. The first case that is cut short or out of range ends the run.
-ghost use Prim.Native.Nat.{_+_, _*_, _≤_};
 ghost use mathlib.Core.Path.{_≡_};
-ghost use lib.IntN.{pos};
-ghost use lib.ListN.{length, replicate};
+ghost use lib.ListN.{length};
 ghost use Rattle.io.specs.Counts.{Counts};
 ghost use Rattle.proration.specs.Proration.{PARTIES};
+use cursor::Cursor;
 use libc::STDIN_FILENO;
 use libc::STDOUT_FILENO;
 use proration::PARTIES;
@@ -15,25 +14,22 @@ const MOST: usize = 1048576;
 
 const ROOM: usize = MOST + 1;
 
-// Amount and count.
-const HEAD: usize = 10;
-
-// A number of u32, and the most characters of a line's number with the space before it.
-const NUMBER: usize = 4;
-
+// The most characters of a line's number with the space before it, and of a line.
 const FIGURE: usize = 22;
 
 const TEXT: usize = 8064;
 
-// The numbers of u32 from a place on.
-fn read_numbers(s: &[u8], at: usize, numbers: &mut [u64])
-    requires { ⌜ at + 4 * length (now numbers) ≤ length (now s) ⌝ }
-{
+// The next numbers of u32, as many as the list has places.
+fn take_numbers(s: &[u8], from: Cursor, numbers: &mut [u64]) -> Cursor {
+    let mut next = from;
     let mut i = 0;
     while i < numbers.len() {
-        numbers[i] = wire::read_u32(s, at + NUMBER * i);
+        let n = cursor::take_u32(s, next);
+        numbers[i] = n.value;
+        next = n.next;
         i += 1;
     }
+    next
 }
 
 // What follows the i-th of n shares on its line.
@@ -67,13 +63,13 @@ fn line_buffer() -> [u8; TEXT]
 }
 
 fn numbers_buffer() -> [u64; PARTIES]
-    ensures { λ r. ⌜ r ≡ replicate PARTIES 0 ⌝ }
+    ensures { λ r. ⌜ PARTIES ≡ length r ⌝ }
 {
     [0; PARTIES]
 }
 
 fn shares_buffer() -> [i64; PARTIES]
-    ensures { λ r. ⌜ r ≡ replicate PARTIES (pos 0) ⌝ }
+    ensures { λ r. ⌜ PARTIES ≡ length r ⌝ }
 {
     [0; PARTIES]
 }
@@ -84,69 +80,59 @@ fn print_line(shares: &[i64]) {
     io::write_all(STDOUT_FILENO, &text[..n]);
 }
 
-// The split whose weights and keys stand from a place on; false if it is out of range.
+// The split of an amount over the next weights and keys: its shares are printed. What is out of range fails.
 fn run_split(
     s: &[u8],
-    at: usize,
+    from: Cursor,
     amount: i64,
     weights: &mut [u64],
     keys: &mut [u64],
     shares: &mut [i64],
-) -> bool
-    requires { ⌜ (at + 8 * length (now weights) ≤ length (now s)) × (length (now keys) ≡ length (now weights)) ⌝ }
-{
-    read_numbers(s, at, weights);
-    read_numbers(s, at + NUMBER * weights.len(), keys);
+) -> Cursor {
+    let between = take_numbers(s, from, weights);
+    let next = take_numbers(s, between, keys);
+    if !next.ok {
+        return next;
+    }
     if proration::seatpomelo_split(amount, weights, keys, shares) != 0 {
-        return false;
+        return cursor::failed(next.at);
     }
     print_line(shares);
-    true
+    next
 }
 
-// The case at a place: its shares are printed, and the answer is the place after it; the same place if it is malformed.
-fn run_case(s: &[u8], at: usize) -> usize
-    requires { ⌜ at ≤ length (now s) ⌝ }
-    ensures { λ r. ⌜ r ≤ length (now (s .entry)) ⌝ }
-{
-    if s.len() - at < HEAD {
-        return at;
-    }
-    let n = wire::read_u16(s, at + 8) as usize;
-    if PARTIES < n {
-        return at;
-    }
-    let end = at + HEAD + 2 * NUMBER * n;
-    if s.len() < end {
-        return at;
-    }
-    let amount = wire::to_signed(wire::read_u64(s, at));
+// The next case.
+fn run_case(s: &[u8], from: Cursor) -> Cursor {
+    let amount = cursor::take_u64(s, from);
+    let parties = cursor::at_most(cursor::take_u16(s, amount.next), PARTIES as u64);
+    let n = parties.value as usize;
     let mut weights = numbers_buffer();
     let mut keys = numbers_buffer();
     let mut shares = shares_buffer();
-    if run_split(
+    run_split(
         s,
-        at + HEAD,
-        amount,
+        parties.next,
+        wire::to_signed(amount.value),
         &mut weights[..n],
         &mut keys[..n],
         &mut shares[..n],
-    ) {
-        return end;
-    }
-    at
+    )
 }
 
-// Each case in turn.
+// The cases one after the other, each at least one byte long.
 fn run(s: &[u8]) {
-    let mut at = 0;
-    while at < s.len() {
-        let next = run_case(s, at);
-        if next <= at {
+    let mut next = Cursor { at: 0, ok: true };
+    let mut turns = s.len();
+    while 0 < turns {
+        if s.len() <= next.at {
+            return;
+        }
+        next = run_case(s, next);
+        if !next.ok {
             io::write_all(STDOUT_FILENO, b"malformed\n");
             return;
         }
-        at = next;
+        turns -= 1;
     }
 }
 

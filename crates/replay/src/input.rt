@@ -1,132 +1,114 @@
-// Numbers from the input, little-endian.
+// The arguments of the calls from the input, little-endian.
+ghost use Prim.Native.Nat.{_<_};
+use cursor::Cursor;
+use point_day::StandInRows;
 
-// A place in the input, and whether all that was asked for so far was there and had a meaning.
-pub struct Cursor {
-    pub at: usize,
-    pub ok: bool,
-}
+// ---- line
 
-pub struct Number {
-    pub value: u64,
+// The arguments of a line.
+pub struct LineArguments {
+    pub user: u16,
+    pub kind: u8,
+    pub consumption: u64,
+    pub coefficient: u64,
     pub next: Cursor,
 }
 
-// Nothing more is to be read.
-pub fn failed(at: usize) -> Cursor {
-    Cursor { at, ok: false }
-}
-
-fn wide(byte: u8) -> u64 {
-    byte as u64
-}
-
-// The number that up to eight bytes spell.
-fn spelled(bytes: &[u8]) -> u64 {
-    let mut value: u64 = 0;
-    let mut i = bytes.len();
-    while 0 < i {
-        i -= 1;
-        value = (value << 8) | wide(bytes[i]);
-    }
-    value
-}
-
-// Passes over some bytes.
-pub fn pass(input: &[u8], from: Cursor, bytes: usize) -> Cursor {
-    let at = from.at;
-    if !from.ok {
-        return failed(at);
-    }
-    if input.len() < at {
-        return failed(at);
-    }
-    if input.len() - at < bytes {
-        return failed(at);
-    }
-    Cursor {
-        at: at + bytes,
-        ok: true,
+pub fn take_line(s: &[u8], from: Cursor) -> LineArguments {
+    let user = cursor::take_u16(s, from);
+    let kind = cursor::take_u8(s, user.next);
+    let consumption = cursor::take_u64(s, kind.next);
+    let coefficient = cursor::take_u32(s, consumption.next);
+    let next = coefficient.next;
+    LineArguments {
+        user: user.value as u16,
+        kind: kind.value as u8,
+        consumption: consumption.value,
+        coefficient: coefficient.value,
+        next,
     }
 }
 
-// The next bytes as a number.
-pub fn take_number(input: &[u8], from: Cursor, bytes: usize) -> Number {
-    let at = from.at;
-    if !from.ok {
-        return Number {
-            value: 0,
-            next: failed(at),
-        };
-    }
-    if input.len() < at {
-        return Number {
-            value: 0,
-            next: failed(at),
-        };
-    }
-    if input.len() - at < bytes {
-        return Number {
-            value: 0,
-            next: failed(at),
-        };
-    }
-    Number {
-        value: spelled(&input[at..at + bytes]),
-        next: Cursor {
-            at: at + bytes,
-            ok: true,
-        },
+// ---- stand-in
+
+// The rows of a stand-in, and the place after them.
+pub struct TakenRows {
+    pub rows: StandInRows,
+    pub next: Cursor,
+}
+
+fn no_rows() -> StandInRows {
+    StandInRows {
+        counts: [0; 15],
+        users: [0; 960],
+        amounts: [0; 960],
     }
 }
 
-// The next bytes as a flag or a tag below `limit`.
-pub fn take_flag(input: &[u8], from: Cursor, limit: u64) -> Number {
-    let n = take_number(input, from, 1);
-    let next = n.next;
-    if n.value < limit {
-        return n;
+// Row i of a stand-in: its count, and as many pairs; those past the 64th are passed over.
+fn take_row(s: &[u8], from: Cursor, i: usize, rows: StandInRows) -> TakenRows
+    requires { ⌜ i < 15 ⌝ }
+{
+    let n = cursor::take_u16(s, from);
+    let count = n.value as usize;
+    let mut filled = rows;
+    let mut next = n.next;
+    filled.counts[i] = count;
+    let mut j = 0;
+    while j < 64 {
+        if count <= j {
+            return TakenRows { rows: filled, next };
+        }
+        let user = cursor::take_u16(s, next);
+        let amount = cursor::take_u64(s, user.next);
+        filled.users[64 * i + j] = user.value as u16;
+        filled.amounts[64 * i + j] = wire::to_signed(amount.value);
+        next = amount.next;
+        j += 1;
     }
-    Number {
-        value: 0,
-        next: failed(next.at),
+    let past = cursor::pass(s, next, 10 * (count - 64));
+    TakenRows {
+        rows: filled,
+        next: past,
     }
 }
+
+pub fn take_rows(s: &[u8], from: Cursor) -> TakenRows {
+    let mut rows = TakenRows {
+        rows: no_rows(),
+        next: from,
+    };
+    let mut i = 0;
+    while i < 15 {
+        let next = rows.next;
+        let filled = rows.rows;
+        rows = take_row(s, next, i, filled);
+        i += 1;
+    }
+    rows
+}
+
+// ---- load
 
 // Fills the array with user numbers of two bytes each.
-pub fn take_users(input: &[u8], from: Cursor, users: &mut [u16; 64]) -> Cursor {
+pub fn take_users(s: &[u8], from: Cursor, users: &mut [u16; 64]) -> Cursor {
     let mut next = from;
     let mut i = 0;
     while i < 64 {
-        let n = take_number(input, next, 2);
-        users[i] = (n.value % 65536) as u16;
+        let n = cursor::take_u16(s, next);
+        users[i] = n.value as u16;
         next = n.next;
         i += 1;
     }
     next
 }
 
-// Fills the array with signed amounts of eight bytes each.
-pub fn take_revisions(input: &[u8], from: Cursor, amounts: &mut [i64; 64]) -> Cursor {
-    let mut next = from;
-    let mut i = 0;
-    while i < 64 {
-        let n = take_number(input, next, 8);
-        amounts[i] = wire::to_signed(n.value);
-        next = n.next;
-        i += 1;
-    }
-    next
+// Fills the array with signed amounts, of which there is one for each user and kind.
+pub fn take_cells(s: &[u8], from: Cursor, amounts: &mut [i64; 320]) -> Cursor {
+    cursor::take_amounts(s, from, amounts)
 }
 
-// Fills the array with signed amounts of eight bytes each.
-pub fn take_cells(input: &[u8], from: Cursor, amounts: &mut [i64; 320]) -> Cursor {
-    let mut next = from;
-    let mut i = 0;
-    while i < 320 {
-        let n = take_number(input, next, 8);
-        amounts[i] = wire::to_signed(n.value);
-        next = n.next;
-        i += 1;
-    }
-    next
+// Fills the array with signed amounts, one for each user.
+pub fn take_revisions(s: &[u8], from: Cursor, amounts: &mut [i64; 64]) -> Cursor {
+    cursor::take_amounts(s, from, amounts)
 }

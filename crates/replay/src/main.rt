@@ -1,11 +1,16 @@
 // Runs calls on one point-day from standard input: an operation is a byte and its arguments, little-endian.
+ghost use mathlib.Core.Path.{_≡_};
 ghost use Prim.Native.Nat.{_<_};
+ghost use lib.ListN.{length};
 
 mod input;
 mod output;
 
-use input::Cursor;
+use cursor::Cursor;
+use cursor::MOST_LENT;
+use inventory::InventoryAnswer;
 use libc::STDIN_FILENO;
+use libc::STDOUT_FILENO;
 use point_day::AllotAnswer;
 use point_day::JoinAnswer;
 use point_day::LineAnswer;
@@ -15,8 +20,8 @@ use point_day::PointDay;
 use point_day::ReviseAnswer;
 use point_day::Stage;
 use point_day::StandInAnswer;
-use point_day::StandInRows;
 use point_day::StartFinalAnswer;
+use report_text::TEXT_ROOM;
 
 // The most bytes of input.
 const MOST: usize = 1048576;
@@ -27,29 +32,15 @@ struct Outcome {
     day: PointDay,
 }
 
-// The rows of a stand-in, and the place after them.
-struct TakenRows {
-    rows: StandInRows,
-    next: Cursor,
-}
-
-fn no_rows() -> StandInRows {
-    StandInRows {
-        counts: [0; 15],
-        users: [0; 960],
-        amounts: [0; 960],
-    }
-}
-
 // ---- join, line, measure
 
 fn join(s: &[u8], from: Cursor, day: PointDay) -> Outcome {
-    let user = input::take_number(s, from, 2);
+    let user = cursor::take_u16(s, from);
     let next = user.next;
     if !next.ok {
         return Outcome { next, day };
     }
-    let r = entry::join(day, (user.value % 65536) as u16);
+    let r = entry::join(day, user.value as u16);
     let after = r.day;
     let answer = r.answer;
     match answer {
@@ -57,30 +48,6 @@ fn join(s: &[u8], from: Cursor, day: PointDay) -> Outcome {
         JoinAnswer::Done => output::text(b"join\n"),
     }
     Outcome { next, day: after }
-}
-
-// The arguments of a line.
-struct LineArguments {
-    user: u16,
-    kind: u8,
-    consumption: u64,
-    coefficient: u64,
-    next: Cursor,
-}
-
-fn take_line(s: &[u8], from: Cursor) -> LineArguments {
-    let user = input::take_number(s, from, 2);
-    let kind = input::take_number(s, user.next, 1);
-    let consumption = input::take_number(s, kind.next, 8);
-    let coefficient = input::take_number(s, consumption.next, 4);
-    let next = coefficient.next;
-    LineArguments {
-        user: (user.value % 65536) as u16,
-        kind: (kind.value % 256) as u8,
-        consumption: consumption.value,
-        coefficient: coefficient.value,
-        next,
-    }
 }
 
 fn print_line(name: &[u8], answer: LineAnswer) {
@@ -95,7 +62,7 @@ fn print_line(name: &[u8], answer: LineAnswer) {
 }
 
 fn line(s: &[u8], from: Cursor, day: PointDay) -> Outcome {
-    let a = take_line(s, from);
+    let a = input::take_line(s, from);
     let next = a.next;
     if !next.ok {
         return Outcome { next, day };
@@ -108,7 +75,7 @@ fn line(s: &[u8], from: Cursor, day: PointDay) -> Outcome {
 }
 
 fn edit(s: &[u8], from: Cursor, day: PointDay) -> Outcome {
-    let a = take_line(s, from);
+    let a = input::take_line(s, from);
     let next = a.next;
     if !next.ok {
         return Outcome { next, day };
@@ -121,8 +88,8 @@ fn edit(s: &[u8], from: Cursor, day: PointDay) -> Outcome {
 }
 
 fn measure(s: &[u8], from: Cursor, day: PointDay) -> Outcome {
-    let emission = input::take_number(s, from, 8);
-    let downstream = input::take_number(s, emission.next, 8);
+    let emission = cursor::take_u64(s, from);
+    let downstream = cursor::take_u64(s, emission.next);
     let next = downstream.next;
     if !next.ok {
         return Outcome { next, day };
@@ -170,51 +137,8 @@ fn revise(next: Cursor, day: PointDay) -> Outcome {
     Outcome { next, day: after }
 }
 
-// Row i of a stand-in: its count, and as many pairs; those past the 64th are passed over.
-fn take_row(s: &[u8], from: Cursor, i: usize, rows: StandInRows) -> TakenRows
-    requires { ⌜ i < 15 ⌝ }
-{
-    let n = input::take_number(s, from, 2);
-    let count = (n.value % 65536) as usize;
-    let mut filled = rows;
-    let mut next = n.next;
-    filled.counts[i] = count;
-    let mut j = 0;
-    while j < 64 {
-        if count <= j {
-            return TakenRows { rows: filled, next };
-        }
-        let user = input::take_number(s, next, 2);
-        let amount = input::take_number(s, user.next, 8);
-        filled.users[64 * i + j] = (user.value % 65536) as u16;
-        filled.amounts[64 * i + j] = wire::to_signed(amount.value);
-        next = amount.next;
-        j += 1;
-    }
-    let past = input::pass(s, next, 10 * (count - 64));
-    TakenRows {
-        rows: filled,
-        next: past,
-    }
-}
-
-fn take_rows(s: &[u8], from: Cursor) -> TakenRows {
-    let mut rows = TakenRows {
-        rows: no_rows(),
-        next: from,
-    };
-    let mut i = 0;
-    while i < 15 {
-        let next = rows.next;
-        let filled = rows.rows;
-        rows = take_row(s, next, i, filled);
-        i += 1;
-    }
-    rows
-}
-
 fn stand_in(s: &[u8], from: Cursor, day: PointDay) -> Outcome {
-    let taken = take_rows(s, from);
+    let taken = input::take_rows(s, from);
     let next = taken.next;
     if !next.ok {
         return Outcome { next, day };
@@ -333,12 +257,12 @@ fn measurement_of(measured: u64, emission: u64, downstream: u64) -> Measurement 
 }
 
 fn load(s: &[u8], from: Cursor, day: PointDay) -> Outcome {
-    let tag = input::take_flag(s, from, 3);
-    let allotted = input::take_flag(s, tag.next, 2);
-    let measured = input::take_flag(s, allotted.next, 2);
-    let emission = input::take_number(s, measured.next, 8);
-    let downstream = input::take_number(s, emission.next, 8);
-    let count = input::take_number(s, downstream.next, 2);
+    let tag = cursor::at_most(cursor::take_u8(s, from), 2);
+    let allotted = cursor::at_most(cursor::take_u8(s, tag.next), 1);
+    let measured = cursor::at_most(cursor::take_u8(s, allotted.next), 1);
+    let emission = cursor::take_u64(s, measured.next);
+    let downstream = cursor::take_u64(s, emission.next);
+    let count = cursor::take_u16(s, downstream.next);
     let mut users = day.users;
     let mut consumption = day.consumption;
     let mut losses = day.losses;
@@ -359,7 +283,7 @@ fn load(s: &[u8], from: Cursor, day: PointDay) -> Outcome {
         stage,
         allotted: allotted.value == 1,
         measurement,
-        count: (count.value % 65536) as usize,
+        count: count.value as usize,
         users,
         consumption,
         losses,
@@ -369,11 +293,66 @@ fn load(s: &[u8], from: Cursor, day: PointDay) -> Outcome {
     Outcome { next, day: loaded }
 }
 
+// ---- inventory and day file
+
+// The answer, and the lent numbers after it.
+fn print_inventory(day: PointDay, lent: &mut [i64]) {
+    let answer = inventory::inventory(day, lent);
+    match answer {
+        InventoryAnswer::Refused(n) => {
+            output::text(b"refused");
+            output::number(n as u64);
+        }
+        InventoryAnswer::Rows(rows) => {
+            output::text(b"inventory");
+            output::number(rows as u64);
+        }
+    }
+    output::amounts(lent);
+    output::end();
+}
+
+fn inventory(s: &[u8], from: Cursor, day: PointDay) -> Cursor {
+    let length = cursor::at_most(cursor::take_u16(s, from), MOST_LENT as u64);
+    let next = length.next;
+    if next.ok {
+        let m = length.value as usize;
+        let mut lent = cursor::lent_numbers();
+        print_inventory(day, &mut lent[..m]);
+    }
+    next
+}
+
+// Room for the report. (A call, so that no proof sees its bytes one by one.)
+fn report_room() -> [u8; TEXT_ROOM]
+    ensures { λ r. ⌜ 8192 ≡ length r ⌝ }
+{
+    [0; TEXT_ROOM]
+}
+
+fn print_report(file: &[u8]) {
+    let mut text = report_room();
+    let n = day_report::day_report(file, &mut text);
+    io::write_all(STDOUT_FILENO, &text[..n]);
+}
+
+fn day_file(s: &[u8], from: Cursor) -> Cursor {
+    let length = cursor::take_u32(s, from);
+    let start = length.next;
+    let next = cursor::pass(s, start, length.value as usize);
+    if next.ok {
+        let at = start.at;
+        let end = next.at;
+        print_report(&s[at..end]);
+    }
+    next
+}
+
 // ---- the run
 
 // One operation: its byte and its arguments.
 fn step(s: &[u8], from: Cursor, day: PointDay) -> Outcome {
-    let operation = input::take_number(s, from, 1);
+    let operation = cursor::take_u8(s, from);
     let next = operation.next;
     let byte = operation.value;
     match byte {
@@ -389,7 +368,6 @@ fn step(s: &[u8], from: Cursor, day: PointDay) -> Outcome {
         3 => edit(s, next, day),
         4 => measure(s, next, day),
         5 => allot(next, day),
-
         6 => stand_in(s, next, day),
         7 => revise(next, day),
         8 => start_final(next, day),
@@ -398,8 +376,16 @@ fn step(s: &[u8], from: Cursor, day: PointDay) -> Outcome {
             Outcome { next, day }
         }
         10 => load(s, next, day),
+        11 => {
+            let after = inventory(s, next, day);
+            Outcome { next: after, day }
+        }
+        12 => {
+            let after = day_file(s, next);
+            Outcome { next: after, day }
+        }
         _ => Outcome {
-            next: input::failed(next.at),
+            next: cursor::failed(next.at),
             day,
         },
     }
@@ -407,17 +393,17 @@ fn step(s: &[u8], from: Cursor, day: PointDay) -> Outcome {
 
 // The operations one after the other, each at least one byte long.
 fn run(s: &[u8]) {
-    let mut cursor = Cursor { at: 0, ok: true };
+    let mut next = Cursor { at: 0, ok: true };
     let mut day = point_day::fresh_day();
     let mut turns = s.len();
     while 0 < turns {
-        if s.len() <= cursor.at {
+        if s.len() <= next.at {
             return;
         }
-        let done = step(s, cursor, day);
+        let done = step(s, next, day);
         day = done.day;
-        cursor = done.next;
-        if !cursor.ok {
+        next = done.next;
+        if !next.ok {
             output::malformed();
             return;
         }

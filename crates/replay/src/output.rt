@@ -14,6 +14,15 @@ pub fn amount(x: i64) {
     io::print_decimal(STDOUT_FILENO, wire::magnitude(x));
 }
 
+// Each with a space before it.
+pub fn amounts(xs: &[i64]) {
+    let mut i = 0;
+    while i < xs.len() {
+        amount(xs[i]);
+        i += 1;
+    }
+}
+
 pub fn number(n: u64) {
     text(b" ");
     io::print_decimal(STDOUT_FILENO, n);

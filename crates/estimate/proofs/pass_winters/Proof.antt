@@ -1,4 +1,4 @@
--- `estimate::pass_winters` meets its contract. It ends: `i` rises to the number of winters. Assumes nothing.
+-- `estimate::pass_winters` ends: `i` rises to the number of winters. Assumes nothing.
 use Prim.Native.Nat.{_-_}
 use borrow.Author.Needs.{needs}
 use Rattle.estimate.proofs.pass_winters.Statement.{statement}

@@ -1,4 +1,4 @@
--- `estimate::run` meets its contract. It ends: the turns fall to 0. Assumes nothing.
+-- `estimate::run` ends: the turns fall to 0. Assumes nothing.
 use Prim.Native.Nat.{_≤_}
 use lib.ListN.{length}
 use borrow.Author.Needs.{needs}

@@ -1,18 +1,19 @@
--- `prorations::run` ends: each case takes at least one byte. Assumes nothing.
-use Prim.Native.Nat.{_-_, _≤_}
-use lib.ListN.{length}
+-- `prorations::run` ends: the turns fall to 0. Assumes nothing.
 use borrow.Author.Needs.{needs}
 use Rattle.prorations.proofs.run.Statement.{statement}
 use Rattle.prorations.proofs.run.Tie as tie
 
 abbrev Inv-loop : tie.InvT-loop
-Inv-loop s at₀ t4 at = at ≤ length s
+Inv-loop s next₀ turns₀ t4 next turns = Unit {0}
 
 abbrev μ-loop : tie.MeasureT-loop
-μ-loop s at₀ t4 at = length s - at
+μ-loop s next₀ turns₀ t4 next turns = turns
 
 loop-holds : tie.Need-loop-holds Inv-loop μ-loop
 loop-holds c = search needs
+
+returns : tie.Need-returns Inv-loop μ-loop
+returns c = search needs
 
 run-case-requires : tie.Need-run-case-requires Inv-loop μ-loop
 run-case-requires c κs = search needs
@@ -23,8 +24,11 @@ slice-aggregate-write-all c = search needs
 write-all-requires : tie.Need-write-all-requires Inv-loop μ-loop
 write-all-requires c κs = search needs
 
-returns : tie.Need-returns Inv-loop μ-loop
-returns c = search needs
+returns-2 : tie.Need-returns-2 Inv-loop μ-loop
+returns-2 c = search needs
+
+sub-turns : tie.Need-sub-turns Inv-loop μ-loop
+sub-turns c = search needs
 
 loop-less : tie.Need-loop-less Inv-loop μ-loop
 loop-less c = search needs
@@ -32,8 +36,8 @@ loop-less c = search needs
 loop-again : tie.Need-loop-again Inv-loop μ-loop
 loop-again c = search needs
 
-returns-2 : tie.Need-returns-2 Inv-loop μ-loop
-returns-2 c = search needs
+returns-3 : tie.Need-returns-3 Inv-loop μ-loop
+returns-3 c = search needs
 
 pub run-spec : {M : Type 1} → statement M
 run-spec =
@@ -42,10 +46,12 @@ run-spec =
     Inv-loop
     μ-loop
     loop-holds
+    returns
     run-case-requires
     slice-aggregate-write-all
     write-all-requires
-    returns
+    returns-2
+    sub-turns
     loop-less
     loop-again
-    returns-2)
+    returns-3)

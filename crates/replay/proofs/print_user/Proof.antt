@@ -1,7 +1,6 @@
--- `replay::print_user` is safe and ends. Assumes nothing.
+-- `replay::print_user` is safe and ends: the five kinds of a slot below 64 lie inside the arrays. Assumes nothing.
 use Prim.Native.Nat.{_-_, _≤_}
 use borrow.Author.Needs.{needs}
-use native.Mathlib.Omega.{arith}
 use Rattle.replay.proofs.print_user.Statement.{statement}
 use Rattle.replay.proofs.print_user.Tie as tie
 

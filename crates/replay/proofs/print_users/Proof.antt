@@ -1,7 +1,6 @@
--- `replay::print_users` is safe and ends. Assumes nothing.
+-- `replay::print_users` is safe and ends: each slot printed is below 64. Assumes nothing.
 use Prim.Native.Nat.{_-_, _≤_}
 use borrow.Author.Needs.{needs}
-use native.Mathlib.Omega.{arith}
 use Rattle.replay.proofs.print_users.Statement.{statement}
 use Rattle.replay.proofs.print_users.Tie as tie
 

@@ -1,6 +1,5 @@
--- `replay::run` ends: each operation takes at least one byte. Assumes nothing.
+-- `replay::run` ends: the turns fall to 0. Assumes nothing.
 use borrow.Author.Needs.{needs}
-use native.Mathlib.Omega.{arith}
 use Rattle.replay.proofs.run.Statement.{statement}
 use Rattle.replay.proofs.run.Tie as tie
 

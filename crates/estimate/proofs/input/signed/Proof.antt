@@ -1,4 +1,4 @@
--- `estimate::input::signed` meets its contract. It is safe: a number of 31 bits is taken from -1. Assumes nothing.
+-- `estimate::input::signed` is safe: a number of 31 bits is taken from -1. Assumes nothing.
 use Prim.Native.Nat.{ℕ, zero, suc, _-_, _<_}
 use native.Mathlib.Omega.{arith}
 use lib.IntN.{pos, negsuc, _-ℤ_}

@@ -1,4 +1,4 @@
--- `estimate::input::take_entries` meets its contract. It is safe and ends: `i` rises to the count, and the array keeps its length. Assumes nothing.
+-- `estimate::input::take_entries` is safe and ends: `i` rises to the count, and the array keeps its length. Assumes nothing.
 use mathlib.Core.Path.{_≡_}
 use Prim.Native.Nat.{_-_, _≤_}
 use native.Mathlib.Omega.{arith}
@@ -8,19 +8,22 @@ use Rattle.estimate.proofs.input.take_entries.Statement.{statement}
 use Rattle.estimate.proofs.input.take_entries.Tie as tie
 
 abbrev Inv-loop : tie.InvT-loop
-Inv-loop input count kept₀ next₀ i₀ kept next i = (i ≤ count) × (length kept ≡ 400)
+Inv-loop s count kept₀ next₀ i₀ kept next i = (i ≤ count) × (length kept ≡ 400)
 
 abbrev μ-loop : tie.MeasureT-loop
-μ-loop input count kept₀ next₀ i₀ kept next i = count - i
+μ-loop s count kept₀ next₀ i₀ kept next i = count - i
 
 loop-holds : tie.Need-loop-holds Inv-loop μ-loop
 loop-holds c = (omega arith, search needs)
 
-take-tag-requires : tie.Need-take-tag-requires Inv-loop μ-loop
-take-tag-requires c κs = search needs
+take-u8-requires : tie.Need-take-u8-requires Inv-loop μ-loop
+take-u8-requires c κs = search needs
 
-take-number-requires : tie.Need-take-number-requires Inv-loop μ-loop
-take-number-requires c κs = search needs
+at-most-requires : tie.Need-at-most-requires Inv-loop μ-loop
+at-most-requires c κs = search needs
+
+take-u64-requires : tie.Need-take-u64-requires Inv-loop μ-loop
+take-u64-requires c κs = search needs
 
 reading-requires : tie.Need-reading-requires Inv-loop μ-loop
 reading-requires c κs = search needs
@@ -38,7 +41,7 @@ loop-less : tie.Need-loop-less Inv-loop μ-loop
 loop-less c = search needs
 
 loop-again : tie.Need-loop-again Inv-loop μ-loop
-loop-again c = (omega arith, simp length-set (c .before .before .before .before .before .loop .inv .1))
+loop-again c = (omega arith, simp length-set (c .before .before .before .before .before .before .loop .inv .1))
 
 returns : tie.Need-returns Inv-loop μ-loop
 returns c = search needs
@@ -50,8 +53,9 @@ take-entries-spec =
     Inv-loop
     μ-loop
     loop-holds
-    take-tag-requires
-    take-number-requires
+    take-u8-requires
+    at-most-requires
+    take-u64-requires
     reading-requires
     mul-kept
     array-set-from-kept

@@ -1,4 +1,4 @@
--- `estimate::input::take_words` meets its contract. It is safe and ends: `i` rises to the list's length, which stays. Assumes nothing.
+-- `estimate::input::take_words` is safe and ends: `i` rises to the list's length, which stays. Assumes nothing.
 use mathlib.Core.Path.{_≡_, refl}
 use Prim.Native.Nat.{_-_, _≤_}
 use native.Mathlib.Omega.{arith}
@@ -8,10 +8,10 @@ use Rattle.estimate.proofs.input.take_words.Statement.{statement}
 use Rattle.estimate.proofs.input.take_words.Tie as tie
 
 abbrev Inv-loop : tie.InvT-loop
-Inv-loop input list₀ next₀ i₀ list next i = (i ≤ length list₀) × (length list ≡ length list₀)
+Inv-loop s list₀ next₀ i₀ list next i = (i ≤ length list₀) × (length list ≡ length list₀)
 
 abbrev μ-loop : tie.MeasureT-loop
-μ-loop input list₀ next₀ i₀ list next i = length list₀ - i
+μ-loop s list₀ next₀ i₀ list next i = length list₀ - i
 
 loop-holds : tie.Need-loop-holds Inv-loop μ-loop
 loop-holds c = (omega arith, refl)

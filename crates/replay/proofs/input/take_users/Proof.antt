@@ -1,21 +1,20 @@
--- `replay::input::take_users` is safe and ends. Assumes nothing.
+-- `replay::input::take_users` is safe and ends: `i` rises to 64. Assumes nothing.
 use Prim.Native.Nat.{_-_, _≤_}
 use borrow.Author.Needs.{needs}
-use native.Mathlib.Omega.{arith}
 use Rattle.replay.proofs.input.take_users.Statement.{statement}
 use Rattle.replay.proofs.input.take_users.Tie as tie
 
 abbrev Inv-loop : tie.InvT-loop
-Inv-loop input users₀ next₀ i₀ users next i = i ≤ 64
+Inv-loop s users₀ next₀ i₀ users next i = i ≤ 64
 
 abbrev μ-loop : tie.MeasureT-loop
-μ-loop input users₀ next₀ i₀ users next i = 64 - i
+μ-loop s users₀ next₀ i₀ users next i = 64 - i
 
 loop-holds : tie.Need-loop-holds Inv-loop μ-loop
 loop-holds c = search needs
 
-take-number-requires : tie.Need-take-number-requires Inv-loop μ-loop
-take-number-requires c κs = search needs
+take-u16-requires : tie.Need-take-u16-requires Inv-loop μ-loop
+take-u16-requires c κs = search needs
 
 cast-users : tie.Need-cast-users Inv-loop μ-loop
 cast-users c = search needs
@@ -45,7 +44,7 @@ take-users-spec =
     Inv-loop
     μ-loop
     loop-holds
-    take-number-requires
+    take-u16-requires
     cast-users
     mul-users
     element-write-users

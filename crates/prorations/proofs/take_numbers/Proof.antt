@@ -1,29 +1,23 @@
--- `prorations::read_numbers` is safe and ends. Assumes nothing.
-use mathlib.Core.Path.{_≡_}
+-- `prorations::take_numbers` is safe and ends: `i` rises to the length of the list, which stays. Assumes nothing.
+use mathlib.Core.Path.{_≡_, refl}
 use Prim.Native.Nat.{_-_, _≤_}
 use native.Mathlib.Omega.{arith}
 use lib.ListN.{length, length-set}
 use borrow.Author.Needs.{needs}
-use Rattle.prorations.proofs.read_numbers.Statement.{statement}
-use Rattle.prorations.proofs.read_numbers.Tie as tie
+use Rattle.prorations.proofs.take_numbers.Statement.{statement}
+use Rattle.prorations.proofs.take_numbers.Tie as tie
 
 abbrev Inv-loop : tie.InvT-loop
-Inv-loop s at numbers₀ i₀ numbers i = (i ≤ length numbers) × (length numbers ≡ length numbers₀)
+Inv-loop s numbers₀ next₀ i₀ numbers next i = (i ≤ length numbers₀) × (length numbers ≡ length numbers₀)
 
 abbrev μ-loop : tie.MeasureT-loop
-μ-loop s at numbers₀ i₀ numbers i = length numbers - i
+μ-loop s numbers₀ next₀ i₀ numbers next i = length numbers₀ - i
 
 loop-holds : tie.Need-loop-holds Inv-loop μ-loop
-loop-holds c = search needs
+loop-holds c = (omega arith, refl)
 
-mul-read-u32 : tie.Need-mul-read-u32 Inv-loop μ-loop
-mul-read-u32 c = search needs
-
-add-read-u32 : tie.Need-add-read-u32 Inv-loop μ-loop
-add-read-u32 c = search needs
-
-read-u32-requires : tie.Need-read-u32-requires Inv-loop μ-loop
-read-u32-requires c κs = search needs
+take-u32-requires : tie.Need-take-u32-requires Inv-loop μ-loop
+take-u32-requires c κs = search needs
 
 mul-numbers : tie.Need-mul-numbers Inv-loop μ-loop
 mul-numbers c = search needs
@@ -35,7 +29,7 @@ add-i : tie.Need-add-i Inv-loop μ-loop
 add-i c = search needs
 
 loop-less : tie.Need-loop-less Inv-loop μ-loop
-loop-less c = simp length-set (omega arith)
+loop-less c = search needs
 
 loop-again : tie.Need-loop-again Inv-loop μ-loop
 loop-again c = simp length-set (omega arith, omega arith)
@@ -46,16 +40,14 @@ same-length c = search needs
 returns : tie.Need-returns Inv-loop μ-loop
 returns c = search needs
 
-pub read-numbers-spec : {M : Type 1} → statement M
-read-numbers-spec =
+pub take-numbers-spec : {M : Type 1} → statement M
+take-numbers-spec =
     tie.close
     (tie.spec
     Inv-loop
     μ-loop
     loop-holds
-    mul-read-u32
-    add-read-u32
-    read-u32-requires
+    take-u32-requires
     mul-numbers
     slice-write-numbers
     add-i

@@ -1,9 +1,8 @@
--- `replay::take_row` is safe and ends. Assumes nothing.
+-- `replay::input::take_row` is safe and ends: `j` rises to 64 or the count. Assumes nothing.
 use Prim.Native.Nat.{_-_, _≤_}
 use borrow.Author.Needs.{needs}
-use native.Mathlib.Omega.{arith}
-use Rattle.replay.proofs.take_row.Statement.{statement}
-use Rattle.replay.proofs.take_row.Tie as tie
+use Rattle.replay.proofs.input.take_row.Statement.{statement}
+use Rattle.replay.proofs.input.take_row.Tie as tie
 
 abbrev Inv-loop : tie.InvT-loop
 Inv-loop s i count filled₀ next₀ j₀ filled next j = (j ≤ 64) × (j ≤ count)
@@ -11,8 +10,8 @@ Inv-loop s i count filled₀ next₀ j₀ filled next j = (j ≤ 64) × (j ≤ c
 abbrev μ-loop : tie.MeasureT-loop
 μ-loop s i count filled₀ next₀ j₀ filled next j = 64 - j
 
-take-number-requires : tie.Need-take-number-requires Inv-loop μ-loop
-take-number-requires c κs = search needs
+take-u16-requires : tie.Need-take-u16-requires Inv-loop μ-loop
+take-u16-requires c κs = search needs
 
 mul-filled : tie.Need-mul-filled Inv-loop μ-loop
 mul-filled c = search needs
@@ -26,11 +25,11 @@ loop-holds c = search needs
 returns : tie.Need-returns Inv-loop μ-loop
 returns c = search needs
 
-take-number-requires-2 : tie.Need-take-number-requires-2 Inv-loop μ-loop
-take-number-requires-2 c κs = search needs
+take-u16-requires-2 : tie.Need-take-u16-requires-2 Inv-loop μ-loop
+take-u16-requires-2 c κs = search needs
 
-take-number-requires-3 : tie.Need-take-number-requires-3 Inv-loop μ-loop
-take-number-requires-3 c κs = search needs
+take-u64-requires : tie.Need-take-u64-requires Inv-loop μ-loop
+take-u64-requires c κs = search needs
 
 cast-filled : tie.Need-cast-filled Inv-loop μ-loop
 cast-filled c = search needs
@@ -50,14 +49,14 @@ element-write-filled-2 c = search needs
 to-signed-requires : tie.Need-to-signed-requires Inv-loop μ-loop
 to-signed-requires c κs = search needs
 
-mul-t21 : tie.Need-mul-t21 Inv-loop μ-loop
-mul-t21 c = search needs
+mul-t19 : tie.Need-mul-t19 Inv-loop μ-loop
+mul-t19 c = search needs
 
-add-t23 : tie.Need-add-t23 Inv-loop μ-loop
-add-t23 c = search needs
+add-t21 : tie.Need-add-t21 Inv-loop μ-loop
+add-t21 c = search needs
 
-mul-t22 : tie.Need-mul-t22 Inv-loop μ-loop
-mul-t22 c = search needs
+mul-t20 : tie.Need-mul-t20 Inv-loop μ-loop
+mul-t20 c = search needs
 
 element-set-from-filled : tie.Need-element-set-from-filled Inv-loop μ-loop
 element-set-from-filled c = search needs
@@ -89,22 +88,22 @@ take-row-spec =
     (tie.spec
     Inv-loop
     μ-loop
-    take-number-requires
+    take-u16-requires
     mul-filled
     element-write-filled
     loop-holds
     returns
-    take-number-requires-2
-    take-number-requires-3
+    take-u16-requires-2
+    take-u64-requires
     cast-filled
     mul-filled-2
     add-filled
     mul-filled-3
     element-write-filled-2
     to-signed-requires
-    mul-t21
-    add-t23
-    mul-t22
+    mul-t19
+    add-t21
+    mul-t20
     element-set-from-filled
     add-j
     loop-less

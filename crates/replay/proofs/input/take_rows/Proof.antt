@@ -1,9 +1,8 @@
--- `replay::take_rows` is safe and ends. Assumes nothing.
+-- `replay::input::take_rows` is safe and ends: `i` rises to 15. Assumes nothing.
 use Prim.Native.Nat.{_-_, _≤_}
 use borrow.Author.Needs.{needs}
-use native.Mathlib.Omega.{arith}
-use Rattle.replay.proofs.take_rows.Statement.{statement}
-use Rattle.replay.proofs.take_rows.Tie as tie
+use Rattle.replay.proofs.input.take_rows.Statement.{statement}
+use Rattle.replay.proofs.input.take_rows.Tie as tie
 
 abbrev Inv-loop : tie.InvT-loop
 Inv-loop s rows₀ i₀ rows i = i ≤ 15
