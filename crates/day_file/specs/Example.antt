@@ -96,3 +96,15 @@ text-of-E = rw report-of-E
 text-of-13 : text (refused 13) ≡ 114 ∷ 101 ∷ 102 ∷ 117 ∷ 115 ∷ 101 ∷ 100 ∷ 32 ∷ 49 ∷ 51 ∷ 10 ∷ []
 unfolding text spaced decimal natural digits-of
 text-of-13 = refl
+
+-- "Anything else is 13; then a day number out of range is 2": day 30,681 in a file without sections, and with a pair that is not there
+late-day : ℕ → List ℕ
+late-day pairs = 82 ∷ 69 ∷ 80 ∷ 49 ∷ 217 ∷ 119 ∷ 0 ∷ 0 ∷ 0 ∷ 0 ∷ 0 ∷ 0 ∷ 0 ∷ 0 ∷ 0 ∷ 0 ∷ pairs ∷ 0 ∷ []
+
+late-day-is-2 : report (late-day 0) ≡ refused 2
+unfolding late-day report well-formed sections-right sorted none-overlap little-endian table every
+late-day-is-2 = refl
+
+malformed-late-day-is-13 : report (late-day 1) ≡ refused 13
+unfolding late-day report well-formed sections-right sorted none-overlap little-endian table every
+malformed-late-day-is-13 = refl

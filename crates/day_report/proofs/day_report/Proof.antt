@@ -5,11 +5,12 @@ use Rattle.point_day.specs.Struct.{read}
 use Rattle.day_report.specs.Answer.{reported, If-allotted}
 use Rattle.day_report.proofs.Running.{no-room, with-room}
 use borrow.Author.Needs.{needs}
+use native.Mathlib.Omega.{arith}
 use Rattle.day_report.proofs.day_report.Statement.{statement}
 use Rattle.day_report.proofs.day_report.Tie as tie
 
 returns : tie.Need-returns
-returns c = no-room (c .before .before .before .args .file .now) (c .before .before .before .args .out .now) (c .if1 .taken)
+returns c = no-room (c .before .before .before .args .file .now) (c .before .before .before .args .out .now) (omega arith)
 
 run-requires : tie.Need-run-requires
 run-requires c κs = search needs
