@@ -6,8 +6,9 @@ use std::path::Path;
 
 use crate::calendar::LAST_DAY;
 use crate::cases::file_builder::{FileBuilder, FileLine, FileSection};
-use crate::day_file::{self, HEADER, MAX_FILE, PAIR};
+use crate::day_file::{self, HEADER, MAX_FILE, PAIR, SECTION_LINE, SECTION_USER};
 use crate::files;
+use crate::limits::MAX_USERS;
 use crate::rng::Rng;
 
 /// The files of a seed, without end: the same seed gives the same files.
@@ -37,10 +38,11 @@ pub fn small_day_file(rng: &mut Rng) -> Vec<u8> {
 
 /// One in three files is as it should be.
 fn day_file(rng: &mut Rng) -> Vec<u8> {
-    let size = match rng.below(40) {
-        0 => Size::Largest,
-        1..=3 => Size::ManySections,
-        4..=9 => Size::ManyLines,
+    let size = match rng.below(200) {
+        0 => Size::Full,
+        1..=4 => Size::Largest,
+        5..=19 => Size::ManySections,
+        20..=49 => Size::ManyLines,
         _ => Size::Small,
     };
     let valid = valid_file(size, rng);
@@ -78,28 +80,13 @@ enum Size {
     ManySections,
     /// 65,536 bytes.
     Largest,
+    /// 65,536 bytes, the last of them in a section: 64 users and all the lines that fit.
+    Full,
 }
 
 fn valid_file(size: Size, rng: &mut Rng) -> FileBuilder {
-    let count = match size {
-        Size::ManySections => rng.pick(&[63, 64, 64]),
-        _ => 1 + rng.below(5),
-    };
-    let most_lines = match size {
-        Size::Small => 4,
-        Size::ManyLines => 200,
-        Size::ManySections => 5,
-        Size::Largest => 1_500,
-    };
-    let scale = rng.pick(&[1, 20, 1_000, 90_000]);
-    let users = distinct_users(count, rng);
-    let sections: Vec<FileSection> = users
-        .into_iter()
-        .map(|user| {
-            let lines = rng.below(most_lines + 1);
-            FileSection { user, lines: (0..lines).map(|_| line(scale, rng)).collect() }
-        })
-        .collect();
+    let sections = sections(size, rng);
+    let count = sections.len();
     let emission = rng.pick(&[0, 1_000, 1_000_000, 1_000_000_000]);
     let mut file = FileBuilder {
         day: rng.pick(&[0, 152, LAST_DAY as u32]),
@@ -117,7 +104,47 @@ fn valid_file(size: Size, rng: &mut Rng) -> FileBuilder {
         file.tail = 0;
         file.tail = MAX_FILE - file.bytes().len();
     }
+    if size == Size::Full {
+        (file.gaps, file.tail) = (vec![], 0);
+        file.gaps = vec![MAX_FILE - file.bytes().len()];
+    }
     file
+}
+
+fn sections(size: Size, rng: &mut Rng) -> Vec<FileSection> {
+    let count = match size {
+        Size::ManySections => rng.pick(&[63, 64, 64]),
+        Size::Full => MAX_USERS,
+        _ => 1 + rng.below(5),
+    };
+    let most_lines = match size {
+        Size::Small => 4,
+        Size::ManyLines => 200,
+        Size::ManySections => 5,
+        Size::Largest => 1_500,
+        Size::Full => 0,
+    };
+    let scale = rng.pick(&[1, 20, 1_000, 90_000]);
+    let mut sections: Vec<FileSection> = distinct_users(count, rng)
+        .into_iter()
+        .map(|user| {
+            let lines = rng.below(most_lines + 1);
+            FileSection { user, lines: (0..lines).map(|_| line(scale, rng)).collect() }
+        })
+        .collect();
+    if size == Size::Full {
+        fill_with_lines(&mut sections, scale, rng);
+    }
+    sections
+}
+
+/// As many lines as a file has room for, each in any section.
+fn fill_with_lines(sections: &mut [FileSection], scale: u32, rng: &mut Rng) {
+    let room = MAX_FILE - HEADER - (PAIR + SECTION_USER) * sections.len();
+    for _ in 0..room / SECTION_LINE {
+        let at = rng.below(sections.len());
+        sections[at].lines.push(line(scale, rng));
+    }
 }
 
 fn distinct_users(count: usize, rng: &mut Rng) -> Vec<u16> {
@@ -282,5 +309,18 @@ mod tests {
             assert!(answers.get(&number).is_some_and(|&count| count >= 5), "{number}: {answers:?}");
         }
         assert!(answers[&0] > 600, "{answers:?}");
+    }
+
+    #[test]
+    fn the_files_meet_the_greatest_size_and_one_byte_more() {
+        let files: Vec<Vec<u8>> = DayFiles::new(1).take(1_000).collect();
+        let taken =
+            |size| files.iter().filter(|file| file.len() == size && read(file).is_ok()).count();
+        assert!(taken(MAX_FILE) > 0);
+        assert_eq!(taken(MAX_FILE + 1), 0);
+        assert!(files.iter().any(|file| file.len() == MAX_FILE + 1));
+        let full = valid_file(Size::Full, &mut Rng::new(1));
+        let last_ends = full.pairs().last().map(|&(offset, length)| (offset + length) as usize);
+        assert_eq!((full.bytes().len(), last_ends), (MAX_FILE, Some(MAX_FILE)));
     }
 }

@@ -1,15 +1,14 @@
 -- Document 01's file E, and what the definitions say of it. Assumes nothing.
 use mathlib.Core.Path.{_≡_, refl}
-use mathlib.Core.Bool.{Bool, true, false}
-use mathlib.Core.List.{List, [], _∷_, _++_, map}
+use mathlib.Core.Bool.{true}
+use mathlib.Core.List.{List, [], _∷_}
 use Prim.Native.Nat.{ℕ}
-use lib.IntN.{ℤ, pos}
-use lib.ListN.{replicate}
+use lib.IntN.{pos}
 use Rattle.numbers.specs.Sums.{sum, table, total, totalZ}
 use Rattle.numbers.specs.Lists.{every, has, distinct, flat, zip}
 use Rattle.numbers.specs.Nearest.{nearest}
 use Rattle.proration.specs.Proration.{before, left, share, split, counted, prorate, prorateZ}
-use Rattle.point_day.specs.Day.{Day, fresh}
+use Rattle.point_day.specs.Day.{fresh}
 use Rattle.point_day.specs.Calls.{verdict, join, cell-step, cell-in, line-right, line, measure, balanced, allot}
 use Rattle.point_day.specs.Struct.{user-at, read, padded, laid, any, faults, taken, called}
 use Rattle.point_day.specs.declared.Stage.the-variants.{Provisional}
@@ -18,7 +17,7 @@ use Rattle.wire.specs.Bytes.{little-endian}
 use Rattle.wire.specs.Text.{digits-of, natural, decimal}
 use Rattle.day_book.specs.Book as book
 use Rattle.day_file.specs.File.{sorted, none-overlap, sections-right, well-formed, file-calls}
-use Rattle.day_file.specs.Report.{Report, refused, allotted, in-order, report}
+use Rattle.day_file.specs.Report.{refused, allotted, in-order, report}
 use Rattle.day_file.specs.Text.{spaced, text}
 
 -- "File E: day 152, emission 1000, downstream 100": header and three pairs, then the sections
@@ -96,3 +95,15 @@ text-of-E = rw report-of-E
 text-of-13 : text (refused 13) ≡ 114 ∷ 101 ∷ 102 ∷ 117 ∷ 115 ∷ 101 ∷ 100 ∷ 32 ∷ 49 ∷ 51 ∷ 10 ∷ []
 unfolding text spaced decimal natural digits-of
 text-of-13 = refl
+
+-- "Anything else is 13; then a day number out of range is 2": day 30,681 in a file without sections, and with a pair that is not there
+late-day : ℕ → List ℕ
+late-day pairs = 82 ∷ 69 ∷ 80 ∷ 49 ∷ 217 ∷ 119 ∷ 0 ∷ 0 ∷ 0 ∷ 0 ∷ 0 ∷ 0 ∷ 0 ∷ 0 ∷ 0 ∷ 0 ∷ pairs ∷ 0 ∷ []
+
+late-day-is-2 : report (late-day 0) ≡ refused 2
+unfolding late-day report well-formed sections-right sorted none-overlap little-endian table every
+late-day-is-2 = refl
+
+malformed-late-day-is-13 : report (late-day 1) ≡ refused 13
+unfolding late-day report well-formed sections-right sorted none-overlap little-endian table every
+malformed-late-day-is-13 = refl

@@ -1,8 +1,7 @@
 -- Document 01, section "Day file and inventory": what program `dayreport` prints. Assumes nothing.
-use mathlib.Core.Bool.{Bool, true, false}
 use mathlib.Core.List.{List, [], _∷_, _++_, map}
 use Prim.Native.Nat.{ℕ}
-use lib.IntN.{ℤ, pos, _+ℤ_}
+use lib.IntN.{ℤ, pos}
 use Rattle.numbers.specs.Sums.{total, totalZ}
 use Rattle.numbers.specs.Lists.{flat}
 use Rattle.point_day.specs.Day.{User, Day, net, whole}

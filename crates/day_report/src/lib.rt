@@ -1,24 +1,22 @@
 ghost use mathlib.Core.Path.{_≡_};
 ghost use mathlib.Core.Bool.{true, false};
-ghost use mathlib.Core.List.{_∷_, [], _++_, map};
+ghost use mathlib.Core.List.{_∷_, []};
 ghost use Prim.Native.Nat.{_≤_};
 ghost use lib.Dec.{leb};
 ghost use lib.ListN.{length};
 ghost use Rattle.numbers.specs.Sums.{pick};
-ghost use Rattle.numbers.specs.Lists.{flat};
-ghost use Rattle.point_day.specs.Day.{measurement-right};
+ghost use Rattle.point_day.specs.Day.{emission-right};
 ghost use Rattle.point_day.specs.Struct.{taken};
+ghost use Rattle.point_day.specs.declared.Measurement.the-variants.{Measured};
 ghost use Rattle.calendar.specs.Days.{LAST-DAY};
 ghost use Rattle.io.specs.Counts.{Counts};
 ghost use Rattle.wire.specs.Text.{written};
 ghost use Rattle.day_book.specs.Book.{allot};
-ghost use Rattle.day_file.specs.File.{sections, section-calls, well-formed};
+ghost use Rattle.day_file.specs.File.{well-formed};
 ghost use Rattle.day_file.specs.Report.{in-order, report};
 ghost use Rattle.day_file.specs.Text.{text};
 ghost use Rattle.report_text.specs.Lines.{TEXT-ROOM};
-ghost use Rattle.file_entry.specs.Entering.{unjoined};
-ghost use Rattle.day_report.specs.Answer.{reported, If-allotted};
-ghost use Rattle.day_report.specs.declared.FileAnswer.the-variants.{Refused};
+ghost use Rattle.day_report.specs.Entered.{entered-and-allotted};
 use calendar::LAST_DAY;
 use calendar::OUT_OF_RANGE;
 use day_file::DOWNSTREAM;
@@ -27,102 +25,81 @@ use day_file::GAS_DAY;
 use day_file::PAIR_COUNT;
 use file_entry::Entry;
 use point_day::AllotAnswer;
-use point_day::MeasureAnswer;
+use point_day::CELLS;
+use point_day::Measurement;
 use point_day::PointDay;
+use point_day::Stage;
+use point_day::USERS;
 use report_text::TEXT_ROOM;
 
 // Row 13 of the table of refusals: a malformed day file.
 const MALFORMED: u8 = 13;
 
-// The number of a refusal, or the gas day.
-pub enum FileAnswer {
-    Refused(u8),
-    Allotted(u64),
-}
-
-// The answer to a day file, and the allotted point-day or a fresh one.
-pub struct FileResult {
-    pub answer: FileAnswer,
-    pub day: PointDay,
-}
-
-fn refuse(number: u8) -> FileResult
-    ensures { λ r. ⌜ r .answer ≡ Refused number ⌝ }
-{
-    FileResult {
-        answer: FileAnswer::Refused(number),
-        day: point_day::fresh_day(),
-    }
-}
-
-// Allots a point-day that is entered.
-fn finish(gas_day: u64, day: PointDay) -> FileResult
-    requires { ⌜ («gas_day» ≤ LAST-DAY) × (taken day ≡ true) × (day .allotted ≡ false) ⌝ }
-    ensures { λ r. ⌜ reported (r .answer) (r .day) ≡ in-order «gas_day» (allot ∷ []) day ⌝ }
-    ensures { λ r. ⌜ If-allotted (r .answer) (r .day) ⌝ }
+// Allots a point-day that is entered, and writes its report.
+fn finish(out: &mut [u8], gas_day: u64, day: PointDay) -> usize
+    requires { ⌜ (TEXT-ROOM ≤ length (now out)) × («gas_day» ≤ LAST-DAY) × (taken day ≡ true) × (day .allotted ≡ false) ⌝ }
+    ensures { λ r. ⌜ r ≡ length (text (in-order «gas_day» (allot ∷ []) day)) ⌝ }
+    ensures { λ r. ⌜ now (out .exit) ≡ written (now (out .entry)) 0 (text (in-order «gas_day» (allot ∷ []) day)) ⌝ }
 {
     let allotted = allotment::allot(day);
     let answer = allotted.answer;
     match answer {
-        AllotAnswer::Refused(number) => refuse(number),
+        AllotAnswer::Refused(number) => report_text::put_refused(out, number),
         AllotAnswer::Done => {
             let day = allotted.day;
-            FileResult {
-                answer: FileAnswer::Allotted(gas_day),
-                day: day,
-            }
+            report_text::put_allotted(out, gas_day, day)
         }
     }
 }
 
-// Enters the sections of a file into a measured point-day without users, and allots it.
-fn enter(file: &[u8], gas_day: u64, day: PointDay) -> FileResult
-    requires { ⌜ (well-formed (now file) ≡ true) × («gas_day» ≤ LAST-DAY) × (measurement-right (day .measurement) ≡ true) × (day ≡ unjoined (day .measurement)) ⌝ }
-    ensures { λ r. ⌜ reported (r .answer) (r .day) ≡ in-order «gas_day» (flat (map (section-calls (now (file .entry))) (sections (now (file .entry)))) ++ (allot ∷ [])) day ⌝ }
-    ensures { λ r. ⌜ If-allotted (r .answer) (r .day) ⌝ }
+// Enters the sections of a file into a measured point-day without users, allots it, and writes the report.
+fn enter(file: &[u8], out: &mut [u8], gas_day: u64, emission: u64, downstream: u64) -> usize
+    requires { ⌜ (well-formed (now file) ≡ true) × (TEXT-ROOM ≤ length (now out)) × («gas_day» ≤ LAST-DAY) × (emission-right emission downstream ≡ true) ⌝ }
+    ensures { λ r. ⌜ r ≡ length (text (entered-and-allotted (now (file .entry)) «gas_day» (Measured emission downstream))) ⌝ }
+    ensures { λ r. ⌜ now (out .exit) ≡ written (now (out .entry)) 0 (text (entered-and-allotted (now (file .entry)) «gas_day» (Measured emission downstream))) ⌝ }
 {
-    let mut users = day.users;
-    let mut consumption = day.consumption;
-    let mut losses = day.losses;
+    let mut users = [0u16; USERS];
+    let mut consumption = [0i64; CELLS];
+    let mut losses = [0i64; CELLS];
     let count = wire::read_u16(file, PAIR_COUNT) as usize;
     match file_entry::enter_sections(file, count, &mut users, &mut consumption, &mut losses) {
-        Entry::Refused(number) => refuse(number),
+        Entry::Refused(number) => report_text::put_refused(out, number),
         Entry::Offtake(_) => {
             let entered = PointDay {
+                stage: Stage::Provisional,
+                allotted: false,
+                measurement: Measurement::Measured(emission, downstream),
                 count: count,
                 users: users,
                 consumption: consumption,
                 losses: losses,
-                ..day
+                balance: [0; CELLS],
+                revision: [0; USERS],
             };
-            finish(gas_day, entered)
+            finish(out, gas_day, entered)
         }
     }
 }
 
-// The calls of a day file on a fresh point-day: the first refusal is the answer.
-pub fn run(file: &[u8]) -> FileResult
-    ensures { λ r. ⌜ reported (r .answer) (r .day) ≡ report (now (file .entry)) ⌝ }
-    ensures { λ r. ⌜ If-allotted (r .answer) (r .day) ⌝ }
+// Writes the report on a day file: the calls that it stands for, on a fresh point-day, and the first refusal is the answer.
+fn put_report(file: &[u8], out: &mut [u8]) -> usize
+    requires { ⌜ TEXT-ROOM ≤ length (now out) ⌝ }
+    ensures { λ r. ⌜ r ≡ length (text (report (now (file .entry)))) ⌝ }
+    ensures { λ r. ⌜ now (out .exit) ≡ written (now (out .entry)) 0 (text (report (now (file .entry)))) ⌝ }
 {
     if !day_file::is_well_formed(file) {
-        return refuse(MALFORMED);
+        return report_text::put_refused(out, MALFORMED);
     }
     let gas_day = wire::read_u32(file, GAS_DAY);
     if (LAST_DAY as u64) < gas_day {
-        return refuse(OUT_OF_RANGE);
+        return report_text::put_refused(out, OUT_OF_RANGE);
     }
     let emission = wire::read_u32(file, EMISSION);
     let downstream = wire::read_u32(file, DOWNSTREAM);
-    let measured = entry::measure(point_day::fresh_day(), emission, downstream);
-    let answer = measured.answer;
-    match answer {
-        MeasureAnswer::Refused(number) => refuse(number),
-        MeasureAnswer::Done => {
-            let day = measured.day;
-            enter(file, gas_day, day)
-        }
+    if !state::emission_right(emission, downstream) {
+        return report_text::put_refused(out, OUT_OF_RANGE);
     }
+    enter(file, out, gas_day, emission, downstream)
 }
 
 // Writes the report on a day file into a buffer, and answers how many bytes it has. In a buffer with less room than the longest
@@ -135,15 +112,7 @@ pub fn day_report(file: &[u8], out: &mut [u8]) -> usize
     if out.len() < TEXT_ROOM {
         return 0;
     }
-    let run = run(file);
-    let answer = run.answer;
-    match answer {
-        FileAnswer::Refused(number) => report_text::put_refused(out, number),
-        FileAnswer::Allotted(gas_day) => {
-            let day = run.day;
-            report_text::put_allotted(out, gas_day, day)
-        }
-    }
+    put_report(file, out)
 }
 
 // The same for programs in other languages.

@@ -1,10 +1,9 @@
 -- The lines of a report from the arrays of a point-day: the contracts of the functions that write them. Assumes nothing.
 use mathlib.Core.List.{List, [], _∷_}
-use Prim.Native.Nat.{ℕ, _*_}
+use Prim.Native.Nat.{ℕ}
 use lib.IntN.{ℤ, pos, _+ℤ_}
-use lib.ListN.{getD, take}
+use lib.ListN.{getD}
 use Rattle.numbers.specs.Sums.{atZ, totalZ}
-use Rattle.point_day.specs.Limits.{KINDS}
 use Rattle.point_day.specs.Struct.{kinds-of}
 use Rattle.day_file.specs.Text.{text-line, user-word}
 

@@ -1,7 +1,7 @@
 ghost use mathlib.Core.Path.{_≡_};
 ghost use mathlib.Core.Bool.{true};
 ghost use mathlib.Core.List.{_∷_, []};
-ghost use Prim.Native.Nat.{ℕ, _+_, _*_, _≤_, _<_};
+ghost use Prim.Native.Nat.{_+_, _*_, _≤_, _<_};
 ghost use lib.IntN.{pos};
 ghost use lib.ListN.{length, take};
 ghost use Rattle.numbers.specs.Sums.{table, totalZ};
@@ -17,7 +17,6 @@ ghost use Rattle.day_file.specs.Text.{SPACE, text-line, text};
 ghost use Rattle.report_text.specs.Lines.{TEXT-ROOM, LONGEST-LINE, of-slot, slot-line};
 use point_day::CELLS;
 use point_day::KINDS;
-use point_day::Measurement;
 use point_day::PointDay;
 use point_day::USERS;
 

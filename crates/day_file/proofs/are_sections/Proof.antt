@@ -40,7 +40,7 @@ read-u32-requires-2 : tie.Need-read-u32-requires-2 Inv-loop μ-loop
 read-u32-requires-2 c κs = search needs
 
 returns : tie.Need-returns Inv-loop μ-loop
-returns c = tells (c .before .before .before .before .before .before .args .file .now) (c .before .before .before .before .loop .end) (c .before .before .before .before .loop .i) (c .before .before .before .before .loop .inv .1) (too-early (c .before .before .before .before .before .before .args .file .now) (c .before .before .before .before .loop .end) (c .before .before .before .before .loop .i) (c .before .before .read-u32 .result) (c .before .read-u322 .result) (omega arith) (c .before .before .read-u32 .ensures .0) (c .before .read-u322 .ensures .0) (c .if1 .taken))
+returns c = tells (c .before .before .before .before .before .before .args .file .now) (c .before .before .before .before .loop .end) (c .before .before .before .before .loop .i) (c .before .before .before .before .loop .inv .1) (too-early (c .before .before .before .before .before .before .args .file .now) (c .before .before .before .before .loop .end) (c .before .before .before .before .loop .i) (c .before .before .read-u32 .result) (c .before .read-u322 .result) (omega arith) (c .before .before .read-u32 .ensures .0) (c .before .read-u322 .ensures .0) (omega arith))
 
 is-whole-requires : tie.Need-is-whole-requires Inv-loop μ-loop
 is-whole-requires c κs = search needs
@@ -52,7 +52,7 @@ add-end-2 : tie.Need-add-end-2 Inv-loop μ-loop
 add-end-2 c = search needs
 
 returns-3 : tie.Need-returns-3 Inv-loop μ-loop
-returns-3 c = tells (c .before .before .before .before .before .before .before .before .before .args .file .now) (c .before .before .before .before .before .before .before .loop .end) (c .before .before .before .before .before .before .before .loop .i) (c .before .before .before .before .before .before .before .loop .inv .1) (outside (c .before .before .before .before .before .before .before .before .before .args .file .now) (c .before .before .before .before .before .before .before .loop .end) (c .before .before .before .before .before .before .before .loop .i) (c .before .before .before .before .before .read-u32 .result) (c .before .before .before .before .read-u322 .result) (omega arith) (c .before .before .before .before .before .read-u32 .ensures .0) (c .before .before .before .before .read-u322 .ensures .0) (c .if3 .taken))
+returns-3 c = tells (c .before .before .before .before .before .before .before .before .before .args .file .now) (c .before .before .before .before .before .before .before .loop .end) (c .before .before .before .before .before .before .before .loop .i) (c .before .before .before .before .before .before .before .loop .inv .1) (outside (c .before .before .before .before .before .before .before .before .before .args .file .now) (c .before .before .before .before .before .before .before .loop .end) (c .before .before .before .before .before .before .before .loop .i) (c .before .before .before .before .before .read-u32 .result) (c .before .before .before .before .read-u322 .result) (omega arith) (c .before .before .before .before .before .read-u32 .ensures .0) (c .before .before .before .before .read-u322 .ensures .0) (omega arith))
 
 add-i : tie.Need-add-i Inv-loop μ-loop
 add-i c = search needs
@@ -61,7 +61,7 @@ loop-less : tie.Need-loop-less Inv-loop μ-loop
 loop-less c = search needs
 
 loop-again : tie.Need-loop-again Inv-loop μ-loop
-loop-again c = (omega arith, c .before .before .before .before .before .before .before .loop .inv .1 ∙ goes-on (c .before .before .before .before .before .before .before .before .before .args .file .now) (c .before .before .before .before .before .before .before .loop .end) (c .before .before .before .before .before .before .before .loop .i) (c .before .before .before .before .before .read-u32 .result) (c .before .before .before .before .read-u322 .result) (omega arith) (c .before .before .before .before .before .read-u32 .ensures .0) (c .before .before .before .before .read-u322 .ensures .0) (c .before .before .before .if1 .left) (sym (c .before .before .is-whole .ensures) ∙ not-false (c .before .before .is-whole .result) (c .before .if2 .left)) (c .if3 .left))
+loop-again c = (omega arith, c .before .before .before .before .before .before .before .loop .inv .1 ∙ goes-on (c .before .before .before .before .before .before .before .before .before .args .file .now) (c .before .before .before .before .before .before .before .loop .end) (c .before .before .before .before .before .before .before .loop .i) (c .before .before .before .before .before .read-u32 .result) (c .before .before .before .before .read-u322 .result) (omega arith) (c .before .before .before .before .before .read-u32 .ensures .0) (c .before .before .before .before .read-u322 .ensures .0) (omega arith) (sym (c .before .before .is-whole .ensures) ∙ not-false (c .before .before .is-whole .result) (c .before .if2 .left)) (omega arith))
 
 returns-4 : tie.Need-returns-4 Inv-loop μ-loop
 returns-4 c = tells (c .before .before .before .args .file .now) (c .before .loop .end) (c .before .loop .i) (c .before .loop .inv .1) (none-left (c .before .before .before .args .file .now) (c .before .loop .end) (c .before .loop .i) (omega (arith, c .before .before .before .pre .0)))

@@ -1,6 +1,6 @@
 -- `day_report::finish` meets its contract. Assumes nothing.
 use Rattle.point_day.specs.Struct.{Sized}
-use Rattle.day_report.proofs.Running.{allot-refused, allot-done, allot-taken, refusal}
+use Rattle.day_report.proofs.Running.{reported, allot-refused, allot-done, allot-taken}
 use borrow.Author.Needs.{needs}
 use Rattle.day_report.proofs.finish.Statement.{statement}
 use Rattle.day_report.proofs.finish.Tie as tie
@@ -11,22 +11,40 @@ allot-requires c κs = search needs
 enum-known-answer : tie.Need-enum-known-answer
 enum-known-answer c = search needs
 
-refuse-requires : tie.Need-refuse-requires
-refuse-requires c κs = search needs
+put-refused-requires : tie.Need-put-refused-requires
+put-refused-requires c κs = search needs
 
 enum-told : tie.Need-enum-told
 enum-told c = search needs
 
+put-allotted-requires : tie.Need-put-allotted-requires
+put-allotted-requires c κs =
+    let z : Sized (c .before .before .before .before .before .before .args .day) = search needs in
+    let w : Sized (c .before .before .before .before .allot .result .day) = search needs in
+    (c .before .before .before .before .before .before .pre .0, allot-taken (c .before .before .before .before .before .before .args .day) (c .before .before .before .before .allot .result .day) (c .before .before .before .before .allot .result .answer) (c .before .before .before .before .allot .ensures) z (c .before .before .before .before .before .before .pre .2) (c .before .before .before .before .before .before .pre .3), w, c .before .before .before .before .before .before .pre .1)
+
+same-length : tie.Need-same-length
+same-length c = search needs
+
 returns : tie.Need-returns
-returns c = refusal (c .refuse .ensures) (c .refuse .result .day) (allot-refused (c .before .before .before .before .before .args .day) (c .before .before .before .before .allot .result .day) (c .before .before .before .before .allot .result .answer) (c .before .before .before .before .allot .ensures) (c .before .before .answer .given .0 .0) (c .before .before .answer .given .1) (c .before .before .before .before .before .args .gas-day))
+returns c = reported (c .before .before .before .before .before .before .before .before .before .args .out .now) (allot-refused (c .before .before .before .before .before .before .before .before .before .args .day) (c .before .before .before .before .before .before .before .allot .result .day) (c .before .before .before .before .before .before .before .allot .result .answer) (c .before .before .before .before .before .before .before .allot .ensures) (c .before .before .before .before .before .answer .given .0 .0) (c .before .before .before .before .before .answer .given .1) (c .before .before .before .before .before .before .before .before .before .args .gas-day)) (c .before .before .put-refused .ensures .0) (c .before .before .put-refused .ensures .1)
+
+same-length-2 : tie.Need-same-length-2
+same-length-2 c = search needs
 
 returns-2 : tie.Need-returns-2
-returns-2 c =
-    let z : Sized (c .before .before .before .before .args .day) = search needs in
-    let w : Sized (c .before .before .before .allot .result .day) = search needs in
-    (allot-done (c .before .before .before .before .args .day) (c .before .before .before .allot .result .day) (c .before .before .before .allot .result .answer) (c .before .before .before .allot .ensures) (c .before .enum-told .given .1) (c .before .before .before .before .args .gas-day), record { number = c .before .before .before .before .pre .0; taken = allot-taken (c .before .before .before .before .args .day) (c .before .before .before .allot .result .day) (c .before .before .before .allot .result .answer) (c .before .before .before .allot .ensures) z (c .before .before .before .before .pre .1) (c .before .before .before .before .pre .2); sized = w })
+returns-2 c = reported (c .before .before .before .before .before .before .before .before .before .args .out .now) (allot-done (c .before .before .before .before .before .before .before .before .before .args .day) (c .before .before .before .before .before .before .before .allot .result .day) (c .before .before .before .before .before .before .before .allot .result .answer) (c .before .before .before .before .before .before .before .allot .ensures) (c .before .before .before .before .before .enum-told .given .1) (c .before .before .before .before .before .before .before .before .before .args .gas-day)) (c .before .before .put-allotted .ensures .0) (c .before .before .put-allotted .ensures .1)
 
 pub finish-spec : {M : Type 1} → statement M
 finish-spec =
     tie.close
-    (tie.spec allot-requires enum-known-answer refuse-requires enum-told returns returns-2)
+    (tie.spec
+    allot-requires
+    enum-known-answer
+    put-refused-requires
+    enum-told
+    put-allotted-requires
+    same-length
+    returns
+    same-length-2
+    returns-2)

@@ -64,7 +64,7 @@ add-enter-line c = search needs
 enter-line-requires : tie.Need-enter-line-requires Inv-loop μ-loop
 enter-line-requires c κs =
     let s = c .before .before .before .loop .inv .1 .entered in
-    (omega (arith, section-inside (c .before .before .before .before .before .before .before .before .before .before .before .args .file .now) (c .before .before .before .before .before .before .before .before .before .before .before .pre .0) (c .before .before .before .before .before .before .before .before .before .before .before .args .i) (c .before .before .before .before .before .before .before .before .before .before .before .pre .1) .section, c .before .before .before .before .before .before .before .before .before .read-u32 .ensures .0, c .before .before .before .before .before .before .before .before .read-u322 .ensures .0), (user-joined (c .before .before .before .before .before .before .before .before .before .before .before .pre .2) (c .before .before .before .before .before .before .before .read-u16 .result) (omega (arith, c .before .before .before .before .before .before .before .read-u16 .ensures .1)) (c .before .before .before .before .before .enter-user .ensures .0) (c .before .before .before .before .if1 .left) (c .before .before .before .before .before .enter-user .ensures .1)) .room, sum-small s, limited-consumption s, limited-losses s)
+    (omega (arith, section-inside (c .before .before .before .before .before .before .before .before .before .before .before .args .file .now) (c .before .before .before .before .before .before .before .before .before .before .before .pre .0) (c .before .before .before .before .before .before .before .before .before .before .before .args .i) (c .before .before .before .before .before .before .before .before .before .before .before .pre .1) .section, c .before .before .before .before .before .before .before .before .before .read-u32 .ensures .0, c .before .before .before .before .before .before .before .before .read-u322 .ensures .0), omega (arith, (user-joined (c .before .before .before .before .before .before .before .before .before .before .before .pre .2) (c .before .before .before .before .before .before .before .read-u16 .result) (omega (arith, c .before .before .before .before .before .before .before .read-u16 .ensures .1)) (c .before .before .before .before .before .enter-user .ensures .0) (c .before .before .before .before .if1 .left) (c .before .before .before .before .before .enter-user .ensures .1)) .room), sum-small s, limited-consumption s, limited-losses s)
 
 enum-known-entry : tie.Need-enum-known-entry Inv-loop μ-loop
 enum-known-entry c = search needs
