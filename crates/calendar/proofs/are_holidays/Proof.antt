@@ -30,10 +30,10 @@ shared-slice-read-day c = search needs
 returns-2 : tie.Need-returns-2 Inv-loop μ-loop
 returns-2 c =
     let i = c .before .before .before .loop .i in
-    sym (c .before .before .before .loop .inv .2 ∙ rest-low _ _ i (omega arith) (c .if2 .taken))
+    sym (c .before .before .before .loop .inv .2 ∙ rest-low _ _ i (omega arith) (omega arith))
 
 returns-3 : tie.Need-returns-3 Inv-loop μ-loop
-returns-3 c = sym (c .before .before .before .before .loop .inv .2 ∙ rest-high _ _ (c .before .before .before .before .loop .i) (omega arith) (omega arith) (c .if3 .taken))
+returns-3 c = sym (c .before .before .before .before .loop .inv .2 ∙ rest-high _ _ (c .before .before .before .before .loop .i) (omega arith) (omega arith) (omega arith))
 
 add-least : tie.Need-add-least Inv-loop μ-loop
 add-least c = search needs
