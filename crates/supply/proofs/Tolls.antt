@@ -38,7 +38,8 @@ amounts-right a b c h =
 pub last-month : (d : ℕ) (ds : List ℕ) → last-days-right d ds ≡ true → Month ds
 unfolding last-days-right
 last-month d ds h =
-    let e = eqb-true (length ds) (last-year-days (month-of d)) (both-fst _ _ h) in
+    let t : eqb (length ds) (last-year-days (month-of d)) ≡ true = both-fst _ _ h in
+    let e = eqb-true (length ds) (last-year-days (month-of d)) t in
     let l = month-length (month-of d .year - 1) (month-of d .number) in
     record { least = omega (arith, e, l .least); most = omega (arith, e, l .most); range = both-snd (eqb (length ds) (last-year-days (month-of d))) _ h }
 
