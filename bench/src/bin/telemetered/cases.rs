@@ -30,12 +30,7 @@ pub enum History {
 }
 
 impl History {
-    pub const ALL: [History; 4] = [
-        History::Near,
-        History::Far,
-        History::NoMatch,
-        History::New,
-    ];
+    pub const ALL: [History; 4] = [History::Near, History::Far, History::NoMatch, History::New];
 
     pub fn name(self) -> &'static str {
         match self {
@@ -78,7 +73,9 @@ pub fn case(kind: History, random: &mut Random) -> Case {
     Case {
         day: wednesday,
         holidays,
-        tags: (1..=ENTRIES).map(|before| kind.tag(before, random)).collect(),
+        tags: (1..=ENTRIES)
+            .map(|before| kind.tag(before, random))
+            .collect(),
         values: (0..ENTRIES).map(|_| random.below(1_000_000_001)).collect(),
         day_flow: random.below(1_000_000_001),
         factor: random.below(1_001) as u32,

@@ -19,7 +19,8 @@ fn main() {
     for kind in History::ALL {
         let cases: Vec<Case> = (0..CASES).map(|_| case(kind, &mut random)).collect();
         compare(&cases);
-        let (proved, plain) = bench::best_of(ROUNDS, &cases, run(proved::estimate), run(plain::estimate));
+        let (proved, plain) =
+            bench::best_of(ROUNDS, &cases, run(proved::estimate), run(plain::estimate));
         println!(
             "| {} | {proved:.0} | {plain:.0} | {:.2} |",
             kind.name(),

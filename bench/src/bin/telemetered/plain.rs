@@ -51,9 +51,11 @@ fn in_range(case: &Case) -> bool {
         && entries == case.values.len()
         && entries <= 400
         && entries <= case.day as usize
-        && case.tags.iter().zip(&case.values).all(|(&tag, &value)| {
-            !matches!(tag, REAL | ESTIMATED | OWN) || value <= LIMIT
-        })
+        && case
+            .tags
+            .iter()
+            .zip(&case.values)
+            .all(|(&tag, &value)| !matches!(tag, REAL | ESTIMATED | OWN) || value <= LIMIT)
 }
 
 fn day_type(day: u32, holidays: &[u32]) -> DayType {
