@@ -10,70 +10,13 @@ use native.Mathlib.Nat.{le-of-eq}
 use lib.Dec.{leb, ltb}
 use lib.ListN.{length, drop, drop-of-length-le}
 use lib.Seq.{drop-cons}
-use borrow.Author.Tests.{le-leb, lt-leb, leb-true, ltb-true, ne-eqb}
+use borrow.Author.Tests.{le-leb, lt-leb, leb-true, lt-ltb, le-ltb, ltb-true, ne-eqb}
 use Rattle.numbers.specs.Sums.{at}
 use Rattle.numbers.specs.Lists.{both, every, has, rising}
 use Rattle.numbers.proofs.Sums.{lt-or-ge}
 use Rattle.numbers.proofs.Lists.{both-fst, both-snd}
 use Rattle.calendar.specs.Days.{LAST-DAY, MOST-HOLIDAYS, is-gas-day, holidays-right}
 use Rattle.calendar.specs.Calls.{calendar-right}
-
--- the rest of a list of holidays, of which the next is no lower than `least`
-unfoldable pub rest-right : ℕ → List ℕ → Bool
-rest-right least [] = true
-rest-right least (x ∷ xs) = both (leb least x) (both (is-gas-day x) (rest-right (x + 1) xs))
-
-shuffle : (g l r e : Bool) → both g (both l (both r e)) ≡ both (both l r) (both g e)
-shuffle true true true e = refl
-shuffle true true false e = refl
-shuffle true false r e = refl
-shuffle false true true e = refl
-shuffle false true false e = refl
-shuffle false false r e = refl
-
--- the first of the list is no lower than `least`
-starts : ℕ → List ℕ → Bool
-starts least [] = true
-starts least (x ∷ xs) = leb least x
-
-rest-is : (least : ℕ) (hs : List ℕ) → rest-right least hs ≡ both (starts least hs) (both (rising hs) (every is-gas-day hs))
-unfolding rest-right starts rising every
-rest-is least [] = refl
-rest-is least (x ∷ []) = refl
-rest-is least (x ∷ (y ∷ ys)) =
-    ap (λ t. both (leb least x) (both (is-gas-day x) t))
-    (rest-is (x + 1) (y ∷ ys) ∙ ap (λ n. both (leb n y) (both (rising (y ∷ ys)) (every is-gas-day (y ∷ ys)))) (add-one x))
-    ∙ ap (both (leb least x)) (shuffle (is-gas-day x) (ltb x y) (rising (y ∷ ys)) (every is-gas-day (y ∷ ys)))
-
-starts-zero : (hs : List ℕ) (q : Bool) → both (starts 0 hs) q ≡ q
-unfolding starts
-starts-zero [] q = refl
-starts-zero (x ∷ xs) q = rw (le-leb 0 x (omega arith))
-
-pub too-many : (hs : List ℕ) → MOST-HOLIDAYS < length hs → holidays-right hs ≡ false
-unfolding holidays-right
-too-many hs h = rw (lt-leb (length hs) MOST-HOLIDAYS h)
-
-pub rest-all : (hs : List ℕ) → length hs ≤ MOST-HOLIDAYS → holidays-right hs ≡ rest-right 0 hs
-unfolding holidays-right
-rest-all hs h = rw (le-leb (length hs) MOST-HOLIDAYS h) (sym (rest-is 0 hs ∙ starts-zero hs _))
-
-module _ (hs : List ℕ) (least i : ℕ) (l : i < length hs) where
-  pub rest-low : at hs i < least → rest-right least (drop i hs) ≡ false
-  unfolding rest-right
-  rest-low h = rw (drop-cons hs i 0 l, lt-leb least (at hs i) h)
-
-  pub rest-high : least ≤ at hs i → LAST-DAY < at hs i → rest-right least (drop i hs) ≡ false
-  unfolding rest-right
-  rest-high h k = rw (drop-cons hs i 0 l, le-leb least (at hs i) h, lt-leb (at hs i) LAST-DAY k)
-
-  pub rest-next : least ≤ at hs i → at hs i ≤ LAST-DAY → rest-right least (drop i hs) ≡ rest-right (at hs i + 1) (drop (i + 1) hs)
-  unfolding rest-right
-  rest-next h k = rw (add-one i, drop-cons hs i 0 l, le-leb least (at hs i) h, le-leb (at hs i) LAST-DAY k)
-
-pub rest-end : (hs : List ℕ) (least i : ℕ) → length hs ≤ i → rest-right least (drop i hs) ≡ true
-unfolding rest-right
-rest-end hs least i h = rw (drop-of-length-le hs {i = i} h)
 
 -- ---- a day among the holidays
 
@@ -97,6 +40,71 @@ rising-lt (x ∷ (y ∷ ys)) r (suc i) (suc j) l m = rising-lt (y ∷ ys) (both-
 
 pub rising-le : (hs : List ℕ) → rising hs ≡ true → (i j : ℕ) → i ≤ j → j < length hs → at hs i ≤ at hs j
 rising-le hs r i j l m = ⊎-elim (λ h. omega (arith, rising-lt hs r i j h m)) (λ h. let e : i ≡ j = omega arith in le-of-eq (ap (at hs) e)) (lt-or-ge i j)
+
+-- ---- numbers that rise, place by place
+
+pub rises-next : (xs : List ℕ) (i : ℕ) → i + 1 < length xs → at xs i < at xs (i + 1) → rising (drop i xs) ≡ rising (drop (i + 1) xs)
+unfolding rising
+rises-next xs i l h = rw (drop-cons xs i 0 (omega arith), ← add-one i, drop-cons xs (i + 1) 0 l, lt-ltb (at xs i) (at xs (i + 1)) h)
+
+pub rises-stop : (xs : List ℕ) (i : ℕ) → i + 1 < length xs → at xs (i + 1) ≤ at xs i → rising (drop i xs) ≡ false
+unfolding rising
+rises-stop xs i l h = rw (drop-cons xs i 0 (omega arith), ← add-one i, drop-cons xs (i + 1) 0 l, le-ltb (at xs i) (at xs (i + 1)) h)
+
+pub rises-end : (xs : List ℕ) (i : ℕ) → length xs ≤ i + 1 → rising (drop i xs) ≡ true
+unfolding rising
+rises-end [] zero l = refl
+rises-end [] (suc i) l = refl
+rises-end (x ∷ []) zero l = refl
+rises-end (x ∷ (y ∷ ys)) zero l = absurd (omega arith)
+rises-end (x ∷ xs) (suc i) l = rises-end xs i (omega arith)
+
+-- ---- a list of holidays as stated
+
+both-one : (p : Bool) → both p true ≡ p
+both-one true = refl
+both-one false = refl
+
+both-none : (p : Bool) → both p false ≡ false
+both-none true = refl
+both-none false = refl
+
+-- what is no higher than z is no higher than m if z is not
+lower : (x z m : ℕ) → x ≤ z → both (leb x m) (leb z m) ≡ leb z m
+lower x z m l =
+    ⊎-elim (λ h. rw (lt-leb z m h) (both-none (leb x m))) (λ h. rw (le-leb z m h, le-leb x m (omega arith))) (lt-or-ge m z)
+
+-- rising numbers are no higher than m if the last is not
+every-last : (m : ℕ) (xs : List ℕ) (k : ℕ) → suc k ≡ length xs → rising xs ≡ true → every (λ x. leb x m) xs ≡ leb (at xs k) m
+unfolding every rising
+every-last m [] k e r = absurd (omega arith)
+every-last m (x ∷ []) zero e r = both-one (leb x m)
+every-last m (x ∷ []) (suc k) e r = absurd (omega arith)
+every-last m (x ∷ (y ∷ ys)) zero e r = absurd (omega arith)
+every-last m (x ∷ (y ∷ ys)) (suc k) e r =
+    let l = rising-lt (x ∷ (y ∷ ys)) r 0 (suc k) (omega arith) (omega arith) in
+    rw (every-last m (y ∷ ys) k (omega arith) (both-snd (ltb x y) _ r)) (lower x (at (y ∷ ys) k) m (omega arith))
+
+module _ (hs : List ℕ) where
+  pub too-many : MOST-HOLIDAYS < length hs → holidays-right hs ≡ false
+  unfolding holidays-right
+  too-many h = rw (lt-leb (length hs) MOST-HOLIDAYS h)
+
+  pub not-rising : length hs ≤ MOST-HOLIDAYS → rising hs ≡ false → holidays-right hs ≡ false
+  unfolding holidays-right
+  not-rising h r = rw (le-leb (length hs) MOST-HOLIDAYS h, r)
+
+  pub no-holiday : length hs ≡ 0 → rising hs ≡ true → holidays-right hs ≡ true
+  unfolding holidays-right every
+  no-holiday e r = rw (le-leb (length hs) MOST-HOLIDAYS (omega arith), r) (none hs e)
+    where
+      none : (xs : List ℕ) → length xs ≡ 0 → every is-gas-day xs ≡ true
+      none [] f = refl
+      none (x ∷ xs) f = absurd (omega arith)
+
+  pub by-last : length hs ≤ MOST-HOLIDAYS → rising hs ≡ true → (k : ℕ) → suc k ≡ length hs → holidays-right hs ≡ is-gas-day (at hs k)
+  unfolding holidays-right
+  by-last h r k e = rw (le-leb (length hs) MOST-HOLIDAYS h, r) (every-last LAST-DAY hs k e r)
 
 -- a list as stated rises
 pub right-rising : (hs : List ℕ) → holidays-right hs ≡ true → rising hs ≡ true

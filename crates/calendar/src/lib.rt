@@ -67,34 +67,42 @@ pub enum MonthAnswer {
     },
 }
 
-// Whether the holidays are as stated: not too many, rising, each a gas day.
-fn are_holidays(holidays: &[u32]) -> bool
-    ensures { λ r. ⌜ r ≡ holidays-right (now (holidays .entry)) ⌝ }
-{
-    if MOST_HOLIDAYS < holidays.len() {
-        return false;
-    }
-    let mut least: u32 = 0;
-    let mut i = 0;
-    while i < holidays.len() {
-        let day = holidays[i];
-        if day < least {
-            return false;
-        }
-        if LAST_DAY < day {
-            return false;
-        }
-        least = day + 1;
-        i += 1;
-    }
-    true
-}
-
 // Whether a number is that of a gas day.
 pub fn is_gas_day(day: u32) -> bool
     ensures { λ r. ⌜ r ≡ is-gas-day day ⌝ }
 {
     day <= LAST_DAY
+}
+
+// Whether each number is above the one before.
+fn are_rising(numbers: &[u32]) -> bool
+    ensures { λ r. ⌜ r ≡ rising (now (numbers .entry)) ⌝ }
+{
+    let mut i = 0;
+    while i + 1 < numbers.len() {
+        if numbers[i + 1] <= numbers[i] {
+            return false;
+        }
+        i += 1;
+    }
+    true
+}
+
+// Whether the holidays are as stated: not too many, rising, each a gas day. Rising numbers are gas days if the last one is.
+fn are_holidays(holidays: &[u32]) -> bool
+    ensures { λ r. ⌜ r ≡ holidays-right (now (holidays .entry)) ⌝ }
+{
+    let count = holidays.len();
+    if MOST_HOLIDAYS < count {
+        return false;
+    }
+    if !are_rising(holidays) {
+        return false;
+    }
+    if count == 0 {
+        return true;
+    }
+    is_gas_day(holidays[count - 1])
 }
 
 // Whether a gas day and holidays are as stated.
@@ -134,11 +142,11 @@ pub fn type_of_day(day: u32, holidays: &[u32]) -> DayType
     requires { ⌜ rising (now holidays) ≡ true ⌝ }
     ensures { λ r. ⌜ r ≡ day-type (now (holidays .entry)) day ⌝ }
 {
-    if is_holiday(day, holidays) {
-        return DayType::SundayOrHoliday;
-    }
     let weekday = day % WEEK;
     if weekday == SUNDAY {
+        return DayType::SundayOrHoliday;
+    }
+    if is_holiday(day, holidays) {
         return DayType::SundayOrHoliday;
     }
     if weekday == SATURDAY {

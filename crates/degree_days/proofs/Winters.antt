@@ -70,7 +70,7 @@ module _ (k : ℕ) (first second : List ℕ) (h : winters-right k first second �
   unfolding winters-mean
   winters-sound = ⊎-elim (λ e. rw e (mean-sound first some-winter)) two-sound (cases (eqb k 1))
     where
-      two-sound : eqb k 1 ≡ false → Sound (pick (eqb k 1) (mean first) (divided (sum (mean first) (mean second)) 2))
+      two-sound : eqb k 1 ≡ false → Sound (winters-mean k first second)
       two-sound e =
           let a = some-winter in
           let b = second-winter (eqb-false k 1 e) in

@@ -9,7 +9,7 @@ use lib.Dec.{leb, eqb}
 use lib.ListN.{length}
 use borrow.Author.Tests.{leb-true, eqb-true}
 use Rattle.numbers.specs.Sums.{pick}
-use Rattle.numbers.specs.Lists.{both, rising}
+use Rattle.numbers.specs.Lists.{both, every, rising}
 use Rattle.numbers.proofs.Sums.{cases}
 use Rattle.numbers.proofs.Lists.{both-fst, both-snd}
 use Rattle.calendar.specs.Days.{LAST-DAY, is-gas-day, is-working}
@@ -38,9 +38,10 @@ amounts-right a b c h =
 pub last-month : (d : ℕ) (ds : List ℕ) → last-days-right d ds ≡ true → Month ds
 unfolding last-days-right
 last-month d ds h =
-    let e = eqb-true (length ds) (last-year-days (month-of d)) (both-fst _ _ h) in
+    let k : both (eqb (length ds) (last-year-days (month-of d))) (every is-degrees ds) ≡ true = h in
+    let e = eqb-true (length ds) (last-year-days (month-of d)) (both-fst _ _ k) in
     let l = month-length (month-of d .year - 1) (month-of d .number) in
-    record { least = omega (arith, e, l .least); most = omega (arith, e, l .most); range = both-snd (eqb (length ds) (last-year-days (month-of d))) _ h }
+    record { least = omega (arith, e, l .least); most = omega (arith, e, l .most); range = both-snd (eqb (length ds) (last-year-days (month-of d))) _ k }
 
 pub record Right34 (d : ℕ) (ly : Amount) (g : ℕ) (ds : List ℕ) (lm q : Amount) : Type 0 where
   pub day : d ≤ LAST-DAY

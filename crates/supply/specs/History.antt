@@ -29,6 +29,13 @@ reading-right (Real v) = in-limit v
 reading-right (Estimated v) = in-limit v
 reading-right (Own v) = in-limit v
 
+-- a reading's value, or 0
+abbrev pub value-of : Reading → ℕ
+value-of Nothing = 0
+value-of (Real v) = v
+value-of (Estimated v) = v
+value-of (Own v) = v
+
 abbrev pub entry-right : Entry → Bool
 entry-right e = reading-right (e .reading)
 

@@ -68,7 +68,7 @@ fn number_of(answer: TelemeteredAnswer) -> u64
 
 // A telemetered point of another toll, without reading and own value: its consumption, or more than the limit by the number of a refusal.
 #[no_mangle]
-pub extern "C" fn supply_telemetered(
+pub extern "C" fn seatpomelo_telemetered(
     day: u32,
     holidays: &[u32],
     tags: &[u8],

@@ -3,10 +3,12 @@ ghost use mathlib.Core.Path.{_≡_};
 ghost use mathlib.Core.Bool.{true};
 ghost use Prim.Native.Nat.{_≤_};
 ghost use lib.ListN.{take};
+ghost use Rattle.numbers.specs.Sums.{pick};
 ghost use Rattle.numbers.specs.Lists.{every, rising};
 ghost use Rattle.supply.specs.Amounts.{THOUSAND, amount-right, flows-right};
-ghost use Rattle.supply.specs.History.{ENTRIES, reading-right, entry-right, history-right, dated, real-value, hit-of, found-in};
+ghost use Rattle.supply.specs.History.{ENTRIES, reading-right, value-of, entry-right, history-right, dated, real-value, hit-of, found-in};
 ghost use Rattle.supply.specs.Telemetered.{value-to-use, own-right, first-of, of-year, of-day, new-consumption, from-found, values-right, telemetered, telemetered-said};
+ghost use Rattle.supply.specs.declared.Amount.the-variants.{Missing, Known};
 use super::Amount;
 use super::ENTRIES;
 use super::Entry;
@@ -29,16 +31,23 @@ const MATCHES: u64 = 3;
 // What a new consumer's yearly flow is divided by.
 const NEW_DAYS: u64 = 210;
 
-// Whether a reading's value is in its range.
+// A reading's value, or 0.
+fn value_of(reading: Reading) -> u64
+    ensures { λ r. ⌜ r ≡ value-of reading ⌝ }
+{
+    match reading {
+        Reading::Nothing => 0,
+        Reading::Real(v) => v,
+        Reading::Estimated(v) => v,
+        Reading::Own(v) => v,
+    }
+}
+
+// Whether a reading's value is in its range. (One test for all kinds: histories mix them.)
 fn is_reading(reading: Reading) -> bool
     ensures { λ r. ⌜ r ≡ reading-right reading ⌝ }
 {
-    match reading {
-        Reading::Nothing => true,
-        Reading::Real(v) => v <= LIMIT,
-        Reading::Estimated(v) => v <= LIMIT,
-        Reading::Own(v) => v <= LIMIT,
-    }
+    value_of(reading) <= LIMIT
 }
 
 // Whether each of the first entries is in its range.
@@ -58,15 +67,25 @@ fn are_entries(history: [Entry; ENTRIES], count: usize) -> bool
     true
 }
 
-// The value of a real reading.
+// A value that counts, or none.
+fn known_if(counts: bool, value: u64) -> Amount
+    ensures { λ r. ⌜ r ≡ pick counts (Known value) Missing ⌝ }
+{
+    if counts {
+        return Amount::Known(value);
+    }
+    Amount::Missing
+}
+
+// The value of a real reading: no other counts.
 fn real_value(reading: Reading) -> Amount
     ensures { λ r. ⌜ r ≡ real-value reading ⌝ }
 {
     match reading {
         Reading::Nothing => Amount::Missing,
-        Reading::Real(v) => Amount::Known(v),
-        Reading::Estimated(_) => Amount::Missing,
-        Reading::Own(_) => Amount::Missing,
+        Reading::Real(v) => known_if(true, v),
+        Reading::Estimated(v) => known_if(false, v),
+        Reading::Own(v) => known_if(false, v),
     }
 }
 

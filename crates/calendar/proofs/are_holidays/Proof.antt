@@ -1,69 +1,58 @@
--- `calendar::are_holidays` meets its contract. The rest of the list from the place reached is as stated just where the whole list is. Assumes nothing.
-use mathlib.Core.Path.{_≡_, sym, _∙_}
-use Prim.Native.Nat.{_+_, _-_, _≤_}
+-- `calendar::are_holidays` meets its contract: each way out is a case of the definition. Assumes nothing.
+use mathlib.Core.Path.{sym, _∙_}
+use Prim.Native.Nat.{_-_}
 use native.Mathlib.Omega.{arith}
-use lib.ListN.{length, drop}
+use lib.ListN.{length}
+use borrow.Author.Tests.{not-true, not-false}
 use borrow.Author.Needs.{needs}
-use Rattle.calendar.specs.Days.{LAST-DAY, holidays-right}
-use Rattle.calendar.proofs.Holidays.{rest-right, too-many, rest-all, rest-low, rest-high, rest-next, rest-end}
+use Rattle.calendar.proofs.Holidays.{too-many, not-rising, no-holiday, by-last}
 use Rattle.calendar.proofs.are_holidays.Statement.{statement}
 use Rattle.calendar.proofs.are_holidays.Tie as tie
 
-abbrev Inv-loop : tie.InvT-loop
-Inv-loop holidays least₀ i₀ least i = (i ≤ length holidays) × (least ≤ LAST-DAY + 1) × (holidays-right holidays ≡ rest-right least (drop i holidays))
+returns : tie.Need-returns
+returns c = sym (too-many (c .before .before .args .holidays .now) (omega arith))
 
-abbrev μ-loop : tie.MeasureT-loop
-μ-loop holidays least₀ i₀ least i = length holidays - i
+are-rising-requires : tie.Need-are-rising-requires
+are-rising-requires c κs = search needs
 
-returns : tie.Need-returns Inv-loop μ-loop
-returns c = sym (too-many _ (c .if1 .taken))
-
-loop-holds : tie.Need-loop-holds Inv-loop μ-loop
-loop-holds c = (omega arith, omega arith, rest-all _ (omega arith))
-
-mul-day : tie.Need-mul-day Inv-loop μ-loop
-mul-day c = search needs
-
-shared-slice-read-day : tie.Need-shared-slice-read-day Inv-loop μ-loop
-shared-slice-read-day c = search needs
-
-returns-2 : tie.Need-returns-2 Inv-loop μ-loop
+returns-2 : tie.Need-returns-2
 returns-2 c =
-    let i = c .before .before .before .loop .i in
-    sym (c .before .before .before .loop .inv .2 ∙ rest-low _ _ i (omega arith) (c .if2 .taken))
+    let hs = c .before .before .before .before .args .holidays .now in
+    sym (not-rising hs (omega arith) (sym (c .before .are-rising .ensures) ∙ not-true _ (c .if2 .taken)))
 
-returns-3 : tie.Need-returns-3 Inv-loop μ-loop
-returns-3 c = sym (c .before .before .before .before .loop .inv .2 ∙ rest-high _ _ (c .before .before .before .before .loop .i) (omega arith) (omega arith) (c .if3 .taken))
+returns-3 : tie.Need-returns-3
+returns-3 c =
+    let hs = c .before .before .before .before .before .args .holidays .now in
+    sym (no-holiday hs (omega arith) (sym (c .before .before .are-rising .ensures) ∙ not-false _ (c .before .if2 .left)))
 
-add-least : tie.Need-add-least Inv-loop μ-loop
-add-least c = search needs
+sub-is-gas-day : tie.Need-sub-is-gas-day
+sub-is-gas-day c = search needs
 
-add-i : tie.Need-add-i Inv-loop μ-loop
-add-i c = search needs
+mul-is-gas-day : tie.Need-mul-is-gas-day
+mul-is-gas-day c = search needs
 
-loop-less : tie.Need-loop-less Inv-loop μ-loop
-loop-less c = search needs
+shared-slice-read-is-gas-day : tie.Need-shared-slice-read-is-gas-day
+shared-slice-read-is-gas-day c = search needs
 
-loop-again : tie.Need-loop-again Inv-loop μ-loop
-loop-again c = (omega arith, omega arith, c .before .before .before .before .loop .inv .2 ∙ rest-next _ _ (c .before .before .before .before .loop .i) (omega arith) (omega arith) (omega arith))
+is-gas-day-requires : tie.Need-is-gas-day-requires
+is-gas-day-requires c κs = search needs
 
-returns-4 : tie.Need-returns-4 Inv-loop μ-loop
-returns-4 c = sym (c .before .loop .inv .2 ∙ rest-end (c .before .before .before .args .holidays .now) (c .before .loop .least) (c .before .loop .i) (omega arith))
+returns-4 : tie.Need-returns-4
+returns-4 c =
+    let hs = c .before .before .before .before .before .before .before .args .holidays .now in
+    let r = sym (c .before .before .before .before .are-rising .ensures) ∙ not-false _ (c .before .before .before .if2 .left) in
+    c .is-gas-day .ensures ∙ sym (by-last hs (omega arith) r (length hs - 1) (omega arith))
 
 pub are-holidays-spec : {M : Type 1} → statement M
 are-holidays-spec =
     tie.close
     (tie.spec
-    Inv-loop
-    μ-loop
     returns
-    loop-holds
-    mul-day
-    shared-slice-read-day
+    are-rising-requires
     returns-2
     returns-3
-    add-least
-    add-i
-    loop-less
-    loop-again
+    sub-is-gas-day
+    mul-is-gas-day
+    shared-slice-read-is-gas-day
+    is-gas-day-requires
     returns-4)

@@ -1,5 +1,6 @@
 -- `calendar::days_of_month` meets its contract. Each arm of the match is a case of the definition. Assumes nothing.
 use mathlib.Core.Path.{_≡_}
+use Prim.Native.Nat.{_%_}
 use borrow.Author.Tests.{eq-eqb, ne-eqb}
 use Rattle.calendar.specs.Months.{month-days}
 use Rattle.calendar.proofs.Months.{days-30, days-31}
@@ -8,11 +9,19 @@ use Rattle.calendar.proofs.days_of_month.Tie as tie
 
 returns : tie.Need-returns
 unfolding month-days
-returns c = let m : c .before .before .args .month ≡ 2 = c .before .match .keys1 in simp (eq-eqb _ _ m, eq-eqb _ _ (c .if1 .taken))
+returns c =
+    let a = c .before .before .args in
+    let m : a .month ≡ 2 = c .before .match .keys1 in
+    let y : a .year % 4 ≡ 0 = c .if1 .taken in
+    simp (eq-eqb _ _ m, eq-eqb _ _ y)
 
 returns-2 : tie.Need-returns-2
 unfolding month-days
-returns-2 c = let m : c .before .before .args .month ≡ 2 = c .before .match .keys1 in simp (eq-eqb _ _ m, ne-eqb _ _ (c .if1 .left))
+returns-2 c =
+    let a = c .before .before .args in
+    let m : a .month ≡ 2 = c .before .match .keys1 in
+    let y : a .year % 4 ≡ 0 → ⊥ = c .if1 .left in
+    simp (eq-eqb _ _ m, ne-eqb _ _ y)
 
 returns-3 : tie.Need-returns-3
 returns-3 c = days-30 _ _ (c .match .keys2)

@@ -1,6 +1,6 @@
 -- `degree_days::average_of` meets its contract. The products are small. Assumes nothing.
+use mathlib.Core.Path.{refl}
 use native.Mathlib.Omega.{arith}
-use borrow.Author.Needs.{needs}
 use Rattle.degree_days.proofs.Winters.{cross, bottoms}
 use Rattle.degree_days.proofs.average_of.Statement.{statement}
 use Rattle.degree_days.proofs.average_of.Tie as tie
@@ -21,7 +21,7 @@ mul-t7 : tie.Need-mul-t7
 mul-t7 c = let p = c .before .before .before .before .before .before .pre in omega (arith, bottoms (p .0) (p .1))
 
 returns : tie.Need-returns
-returns c = search needs
+returns c = refl
 
 pub average-of-spec : {M : Type 1} → statement M
 average-of-spec = tie.close (tie.spec mul-t3 mul-t4 add-t5 mul-t6 mul-t7 returns)

@@ -1,5 +1,6 @@
 -- `reading::spread` meets its contract: each way out is one of the outcomes. Assumes nothing.
 use mathlib.Core.Path.{sym, ap, _∙_}
+use native.Mathlib.Omega.{arith}
 use borrow.Author.Tests.{not-true, not-false}
 use Rattle.point_day.specs.Calls.{accept}
 use Rattle.reading.specs.Spread.{outcome}
@@ -27,10 +28,10 @@ returns-2 c =
 returns-3 : tie.Need-returns-3
 returns-3 c =
     let a = c .before .before .before .before .before .args in
-    short (a .reading) (a .weights .now) (a .out .now) (sym (c .before .before .before .before .is-in-range .ensures) ∙ not-false _ (c .before .before .before .if1 .left)) (sym (c .before .before .any-negative .ensures) ∙ c .before .if2 .left) (c .if3 .taken)
+    short (a .reading) (a .weights .now) (a .out .now) (sym (c .before .before .before .before .is-in-range .ensures) ∙ not-false _ (c .before .before .before .if1 .left)) (sym (c .before .before .any-negative .ensures) ∙ c .before .if2 .left) (omega arith)
 
 spread-days-requires : tie.Need-spread-days-requires
-spread-days-requires c κs = (sym (c .before .before .before .before .before .is-in-range .ensures) ∙ not-false _ (c .before .before .before .before .if1 .left), c .before .if3 .left)
+spread-days-requires c κs = (sym (c .before .before .before .before .before .is-in-range .ensures) ∙ not-false _ (c .before .before .before .before .if1 .left), omega arith)
 
 same-length : tie.Need-same-length
 same-length c = search needs
@@ -39,7 +40,7 @@ returns-4 : tie.Need-returns-4
 returns-4 c =
     let a = c .before .before .before .before .before .before .before .before .args in
     ap (outcome accept) (c .before .spread-days .ensures)
-    ∙ accepted (a .reading) (a .weights .now) (a .out .now) (sym (c .before .before .before .before .before .before .before .is-in-range .ensures) ∙ not-false _ (c .before .before .before .before .before .before .if1 .left)) (sym (c .before .before .before .before .before .any-negative .ensures) ∙ c .before .before .before .before .if2 .left) (c .before .before .before .if3 .left)
+    ∙ accepted (a .reading) (a .weights .now) (a .out .now) (sym (c .before .before .before .before .before .before .before .is-in-range .ensures) ∙ not-false _ (c .before .before .before .before .before .before .if1 .left)) (sym (c .before .before .before .before .before .any-negative .ensures) ∙ c .before .before .before .before .if2 .left) (omega arith)
 
 pub spread-spec : {M : Type 1} → statement M
 spread-spec =

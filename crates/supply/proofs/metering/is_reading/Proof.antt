@@ -1,43 +1,24 @@
--- `supply::metering::is_reading` meets its contract. Each arm is a case of the definition. Assumes nothing.
-use mathlib.Core.Path.{sym, ap}
+-- `supply::metering::is_reading` meets its contract. A reading is in its range just where its value is. Assumes nothing.
+use mathlib.Core.Path.{_≡_, refl, ap, _∙_}
 use borrow.Author.Needs.{needs}
-use Rattle.supply.specs.History.{reading-right}
+use Rattle.supply.specs.Amounts.{in-limit}
+use Rattle.supply.specs.History.{reading-right, value-of}
+use Rattle.supply.specs.declared.Reading.{Reading}
+use Rattle.supply.specs.declared.Reading.the-variants.{Nothing, Real, Estimated, Own}
 use Rattle.supply.proofs.metering.is_reading.Statement.{statement}
 use Rattle.supply.proofs.metering.is_reading.Tie as tie
 
-enum-told : tie.Need-enum-told
-enum-told c = search needs
+by-value : (r : Reading) → in-limit (value-of r) ≡ reading-right r
+by-value Nothing = refl
+by-value (Real v) = refl
+by-value (Estimated v) = refl
+by-value (Own v) = refl
 
-enum-known-reading : tie.Need-enum-known-reading
-enum-known-reading c = search needs
-
-enum-known-reading-2 : tie.Need-enum-known-reading-2
-enum-known-reading-2 c = search needs
-
-enum-known-reading-3 : tie.Need-enum-known-reading-3
-enum-known-reading-3 c = search needs
+value-of-requires : tie.Need-value-of-requires
+value-of-requires c κs = search needs
 
 returns : tie.Need-returns
-returns c = search needs
-
-returns-2 : tie.Need-returns-2
-returns-2 c = sym (ap reading-right (c .before .reading .given .1))
-
-returns-3 : tie.Need-returns-3
-returns-3 c = sym (ap reading-right (c .before .reading2 .given .1))
-
-returns-4 : tie.Need-returns-4
-returns-4 c = sym (ap reading-right (c .before .reading3 .given .1))
+returns c = ap in-limit (c .value-of .ensures) ∙ by-value (c .before .args .reading)
 
 pub is-reading-spec : {M : Type 1} → statement M
-is-reading-spec =
-    tie.close
-    (tie.spec
-    enum-told
-    enum-known-reading
-    enum-known-reading-2
-    enum-known-reading-3
-    returns
-    returns-2
-    returns-3
-    returns-4)
+is-reading-spec = tie.close (tie.spec value-of-requires returns)

@@ -1,5 +1,5 @@
 -- `supply::metering::telemetered` meets its contract. Refusals by the two tests; else the first amount that is there, or what the search leads to. Assumes nothing.
-use mathlib.Core.Path.{_≡_, sym, ap, _∙_}
+use mathlib.Core.Path.{_≡_, refl, sym, ap, _∙_}
 use lib.ListN.{take}
 use borrow.Author.Tests.{not-true, not-false}
 use borrow.Author.Needs.{needs}
@@ -39,7 +39,7 @@ unfolding telemetered tested
 returns-3 c =
     let s = c .before .before .before .before .before .before .before .before .before .before .args in
     let k : first-of (s .reading) (value-to-use (s .own)) ≡ Known (c .before .known .given .0 .0) = ap (first-of (s .reading)) (sym (c .before .before .before .before .own-to-use .ensures)) ∙ sym (c .before .before .before .first-known .ensures) ∙ c .before .known .given .1 in
-    rw (sym (c .before .before .before .before .before .before .before .before .are-values .ensures) ∙ not-false _ (c .before .before .before .before .before .before .before .if1 .left), sym (c .before .before .before .before .before .before .is-history .ensures) ∙ not-false _ (c .before .before .before .before .before .if2 .left), k)
+    rw (sym (c .before .before .before .before .before .before .before .before .are-values .ensures) ∙ not-false _ (c .before .before .before .before .before .before .before .if1 .left), sym (c .before .before .before .before .before .before .is-history .ensures) ∙ not-false _ (c .before .before .before .before .before .if2 .left), k) refl
 
 enum-told : tie.Need-enum-told
 enum-told c = search needs

@@ -1,5 +1,5 @@
 -- `supply::months::month_of_34` meets its contract. Each return is a case of the definition; the product is small. Assumes nothing.
-use mathlib.Core.Path.{sym, ap, ap₂}
+use mathlib.Core.Path.{refl, sym, ap, ap₂}
 use native.Mathlib.Nat.{mul-le-mul}
 use native.Mathlib.Omega.{arith}
 use borrow.Author.Needs.{needs}
@@ -43,8 +43,7 @@ enum-known-year-flow c = search needs
 returns-3 : tie.Need-returns-3
 unfolding month-34
 returns-3 c =
-    let s = c .before .before .before .before .before .before .before .args in
-    rw (c .before .before .before .before .before .enum-told .given .1, c .before .before .before .enum-told2 .given .1, c .before .year-flow .given .1)
+    rw (c .before .before .before .before .before .enum-told .given .1, c .before .before .before .enum-told2 .given .1, c .before .year-flow .given .1) refl
 
 enum-told-3 : tie.Need-enum-told-3
 enum-told-3 c = search needs

@@ -1,4 +1,5 @@
 -- `supply::months::month_of_other` meets its contract. Each return is a case of the definition; the products are small. Assumes nothing.
+use mathlib.Core.Path.{refl}
 use native.Mathlib.Nat.{mul-le-mul}
 use native.Mathlib.Omega.{arith}
 use borrow.Author.Needs.{needs}
@@ -17,7 +18,7 @@ mul-t11 c =
 
 returns : tie.Need-returns
 unfolding month-other
-returns c = rw (c .before .last-year .given .1)
+returns c = rw (c .before .last-year .given .1) refl
 
 enum-told : tie.Need-enum-told
 enum-told c = search needs

@@ -48,7 +48,9 @@ add-consumers c = search needs
 
 returns-3 : tie.Need-returns-3
 unfolding profile tested
-returns-3 c = rw (one-right (c .before), two-right (c .before), eq-eqb _ 0 (c .if3 .taken))
+returns-3 c =
+    let a = s (c .before) .args in
+    rw (one-right (c .before), two-right (c .before), eq-eqb (a .nc1 + a .nc2) 0 (omega arith))
 
 add-days : tie.Need-add-days
 add-days c = search needs
@@ -74,7 +76,9 @@ nearest-requires c κs =
 
 returns-4 : tie.Need-returns-4
 unfolding profile tested
-returns-4 c = rw (one-right (c .before .before), two-right (c .before .before), ne-eqb _ 0 (c .before .if3 .left)) (ap given (c .nearest .ensures))
+returns-4 c =
+    let a = s (c .before .before) .args in
+    rw (one-right (c .before .before), two-right (c .before .before), ne-eqb (a .nc1 + a .nc2) 0 (λ e. omega arith)) (ap given (c .nearest .ensures))
 
 pub profile-spec : {M : Type 1} → statement M
 profile-spec =

@@ -52,7 +52,9 @@ mul-product c =
 
 returns-2 : tie.Need-returns-2
 unfolding type-2 tested
-returns-2 c = rw (is-right (c .before), lt-ltb TRILLION _ (c .if2 .taken))
+returns-2 c =
+    let n = s (c .before) .args .consumers * s (c .before) .args .profile in
+    rw (is-right (c .before), lt-ltb TRILLION n (omega arith))
 
 mean-of-winters-requires : tie.Need-mean-of-winters-requires
 mean-of-winters-requires c κs = passed (c .before) .winters
@@ -79,7 +81,7 @@ unfolding type-2 tested
 returns-3 c =
     let d = c .before .before .before .before in
     let n = s (e d) .args .consumers * s (e d) .args .profile in
-    rw (is-right (e d), le-ltb TRILLION n (c .before .before .before .before .before .before .if2 .left))
+    rw (is-right (e d), le-ltb TRILLION n (omega (arith, c .before .before .before .before .before .before .if2 .left)))
     (c .limited-to .ensures ∙ ap limited (c .before .nearest .ensures ∙ ap (λ f. nearest (n * f .top) (f .bottom * KILO)) (correction-is d)))
 
 pub type-2-spec : {M : Type 1} → statement M

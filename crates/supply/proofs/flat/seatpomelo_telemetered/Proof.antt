@@ -1,4 +1,4 @@
--- `supply::flat::supply_telemetered` meets its contract. Lists of unequal length and long ones are refused; else the answer of the call. Assumes nothing.
+-- `supply::flat::seatpomelo_telemetered` meets its contract. Lists of unequal length and long ones are refused; else the answer of the call. Assumes nothing.
 use mathlib.Core.Path.{sym, ap, _∙_}
 use lib.ListN.{length}
 use borrow.Author.Tests.{eq-eqb, ne-eqb}
@@ -7,8 +7,8 @@ use Rattle.supply.specs.Flat.{entries-of, as-number, flat-telemetered}
 use Rattle.supply.specs.declared.Amount.the-variants.{Missing}
 use Rattle.supply.specs.declared.OwnValue.the-variants.{NotSent}
 use Rattle.supply.proofs.Flats.{same-answer, too-long, all-entries}
-use Rattle.supply.proofs.flat.supply_telemetered.Statement.{statement}
-use Rattle.supply.proofs.flat.supply_telemetered.Tie as tie
+use Rattle.supply.proofs.flat.seatpomelo_telemetered.Statement.{statement}
+use Rattle.supply.proofs.flat.seatpomelo_telemetered.Tie as tie
 
 cast-result : tie.Need-cast-result
 cast-result c = search needs
@@ -49,8 +49,8 @@ returns-3 c =
     rw (eq-eqb _ _ (c .before .before .before .before .if1 .left))
     (c .number-of .ensures ∙ ap as-number (c .before .telemetered .ensures ∙ same-answer (s .day) (s .holidays .now) Missing NotSent _ (length (s .tags .now)) (c .before .before .history-for .result) es (c .before .before .history-for .ensures ∙ sym (all-entries (s .tags .now) (s .values .now)))))
 
-pub supply-telemetered-spec : {M : Type 1} → statement M
-supply-telemetered-spec =
+pub seatpomelo-telemetered-spec : {M : Type 1} → statement M
+seatpomelo-telemetered-spec =
     tie.close
     (tie.spec
     cast-result

@@ -1,0 +1,32 @@
+//! The proved library, as a Rust program calls it.
+
+#[link(name = "reading", kind = "static")]
+extern "C" {
+    // A Rattle slice is passed as a pointer and a length.
+    fn seatpomelo_spread(
+        reading: u64,
+        weights: *const i64,
+        weight_count: usize,
+        out: *mut i64,
+        out_count: usize,
+    ) -> u8;
+}
+
+/// A share for each day, or document 01's number of the refusal. Any arguments will do: the call tests them itself.
+pub fn spread(reading: u64, weights: &[i64], out: &mut [i64]) -> Result<(), u8> {
+    // SAFETY: each pointer comes with the length of its slice, and the slices live through the call.
+    let answer = unsafe {
+        seatpomelo_spread(
+            reading,
+            weights.as_ptr(),
+            weights.len(),
+            out.as_mut_ptr(),
+            out.len(),
+        )
+    };
+    if answer == 0 {
+        Ok(())
+    } else {
+        Err(answer)
+    }
+}
