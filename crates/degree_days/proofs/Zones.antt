@@ -5,7 +5,7 @@ use lib.Dec.{eqb}
 use lib.ListN.{getD}
 use borrow.Author.Tests.{eqb-true}
 use Rattle.degree_days.specs.Zones.{PROVINCES, _in-zone_, provinces, counted, zone-of, zone-rule}
-use Rattle.degree_days.proofs.Lists.{every-at}
+use Rattle.numbers.proofs.Places.{every-at}
 
 pub zone-at : (i : ℕ) → i < PROVINCES → getD provinces i (0 in-zone 0) .zone ≡ zone-of (getD provinces i (0 in-zone 0) .mean)
-zone-at i l = eqb-true _ _ (every-at (λ p. eqb (p .zone) (zone-of (p .mean))) provinces i (0 in-zone 0) zone-rule (rw counted l))
+zone-at i l = eqb-true _ _ (every-at (λ p. eqb (p .zone) (zone-of (p .mean))) (0 in-zone 0) provinces zone-rule i (rw counted l))

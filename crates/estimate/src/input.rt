@@ -6,9 +6,9 @@ ghost use Rattle.io.specs.Counts.{Counts};
 use cursor::Cursor;
 use cursor::Number;
 use supply::Amount;
-use supply::ENTRIES;
-use supply::Entry;
-use supply::Reading;
+use telemetered::ENTRIES;
+use telemetered::Entry;
+use telemetered::Reading;
 
 // The bytes of an entry: its tag and its value.
 const ENTRY_BYTES: usize = 9;

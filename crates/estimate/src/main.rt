@@ -15,10 +15,10 @@ use reading::SpreadAnswer;
 use supply::Amount;
 use supply::ConsumptionAnswer;
 use supply::Flows;
-use supply::OwnValue;
-use supply::ProfileAnswer;
-use supply::TelemeteredAnswer;
 use supply::Toll;
+use telemetered::OwnValue;
+use telemetered::TelemeteredAnswer;
+use type_2::ProfileAnswer;
 
 // The most bytes of input.
 const MOST_INPUT: usize = 1048576;
@@ -93,7 +93,7 @@ fn telemetered(s: &[u8], from: Cursor) -> Cursor {
         let own_amount = own.amount;
         let sent = own_value(own_amount);
         let list = history.entries;
-        let answer = supply::metering::telemetered(
+        let answer = telemetered::telemetered(
             day.value,
             &days[..n],
             read,
@@ -130,7 +130,7 @@ fn toll_34(s: &[u8], from: Cursor) -> Cursor {
         let last = last_year.amount;
         let month = last_month.amount;
         let flow = year.amount;
-        let answer = supply::months::toll_34(day.value, last, g.value, &days[..n], month, flow);
+        let answer = type_1::toll_34(day.value, last, g.value, &days[..n], month, flow);
         print_consumption(b"type1", answer);
     }
     next
@@ -152,7 +152,7 @@ fn other_toll(s: &[u8], from: Cursor) -> Cursor {
         let last = last_year.amount;
         let month = last_month.amount;
         let daily = flow.amount;
-        let answer = supply::months::other_toll(
+        let answer = type_1::other_toll(
             day.value,
             &days[..n],
             last,
@@ -192,7 +192,7 @@ fn type_2(s: &[u8], from: Cursor) -> Cursor {
     let next = pass_winters(s, two.next, winters.value);
     if next.ok {
         let k = winters.value as u8;
-        let answer = supply::profiles::type_2(
+        let answer = type_2::type_2(
             consumers.value,
             profile.value,
             g.value,
@@ -221,7 +221,7 @@ fn profile(s: &[u8], from: Cursor) -> Cursor {
     let n2 = input::take_word(s, n1.next);
     let next = n2.next;
     if next.ok {
-        print_profile(supply::profiles::profile(
+        print_profile(type_2::profile(
             f1.value,
             f2.value,
             nc1.value,

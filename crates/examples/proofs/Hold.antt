@@ -9,7 +9,8 @@ use Rattle.point_day.specs.Calls.{verdict, join, cell-step, cell-in, line-right
 use Rattle.point_day.specs.Struct.{user-at, read, padded, laid, any, faults, taken, called}
 use Rattle.day_book.specs.Book.{run}
 use Rattle.degree_days.specs.Examples as degree-days
-use Rattle.supply.specs.Examples as supply
+use Rattle.telemetered.specs.Examples as telemetered
+use Rattle.type_1.specs.Examples as type-1
 use Rattle.examples.specs.Examples.{Holds, AllHold, report, last, E, p1, p2, two-read, p3, p4, p5, p6, p7, p8, p8-instead, fifteen-rows, p9, p10, examples}
 
 -- to unfold it is to compute the calls
@@ -47,15 +48,15 @@ p4-holds = degree-days.p4
 
 p5-holds : Holds p5
 unfolding p5
-p5-holds = supply.p5
+p5-holds = telemetered.p5
 
 p6-holds : Holds p6
 unfolding p6
-p6-holds = supply.p6
+p6-holds = telemetered.p6
 
 p7-holds : Holds p7
 unfolding p7
-p7-holds = supply.p7
+p7-holds = type-1.p7
 
 p10-holds : Holds p10
 unfolding p10

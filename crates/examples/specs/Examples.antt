@@ -10,7 +10,8 @@ use Rattle.point_day.specs.Day.{User, Day, whole, net}
 use Rattle.point_day.specs.Calls.{Answer, within-tolerance, revision-assigned, rows-looked-at, Pair}
 use Rattle.point_day.specs.Struct.{read}
 use Rattle.degree_days.specs.Examples.{P4, P10}
-use Rattle.supply.specs.Examples.{P5, P6, P7}
+use Rattle.telemetered.specs.Examples.{P5, P6}
+use Rattle.type_1.specs.Examples.{P7}
 use Rattle.day_book.specs.Book.{Call, join, line, measure, allot, stand-in, revise, Calls, none, _then_, run, answer-after}
 
 -- ---- an example
@@ -118,7 +119,7 @@ p3 =
     ∷ (pos 2 ∷ pos 39 ∷ pos 0 ∷ pos 0 ∷ pos 39 ∷ [])
     ∷ [])
 
--- ---- P4 to P7: degree days, telemetered, Type 1, stated in crates `degree_days` and `supply`
+-- ---- P4 to P7: degree days, telemetered, Type 1, stated in crates `degree_days`, `telemetered` and `type_1`
 
 unfoldable pub p4 : Example
 p4 = stated "P4" P4

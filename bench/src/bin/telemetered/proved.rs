@@ -2,7 +2,7 @@
 
 use crate::cases::Case;
 
-#[link(name = "supply", kind = "static")]
+#[link(name = "telemetered", kind = "static")]
 extern "C" {
     // A Rattle slice is passed as a pointer and a length.
     fn seatpomelo_telemetered(

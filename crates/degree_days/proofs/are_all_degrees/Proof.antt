@@ -7,7 +7,7 @@ use borrow.Author.Tests.{le-leb, lt-leb}
 use borrow.Author.Needs.{needs}
 use Rattle.numbers.specs.Lists.{every}
 use Rattle.degree_days.specs.Temperature.{MOST-DEGREES, is-degrees}
-use Rattle.degree_days.proofs.Lists.{every-next, every-stop, every-end}
+use Rattle.numbers.proofs.Places.{every-next, every-stop, every-end}
 use Rattle.degree_days.proofs.are_all_degrees.Statement.{statement}
 use Rattle.degree_days.proofs.are_all_degrees.Tie as tie
 
@@ -29,7 +29,7 @@ shared-slice-read-if1 c = search needs
 returns : tie.Need-returns Inv-loop μ-loop
 returns c =
     let l = c .before .before .before .loop in
-    sym (l .inv .1 ∙ every-stop is-degrees _ (l .i) 0 (omega arith) (lt-leb _ MOST-DEGREES (c .if1 .taken)))
+    sym (l .inv .1 ∙ every-stop is-degrees 0 _ (l .i) (omega arith) (lt-leb _ MOST-DEGREES (c .if1 .taken)))
 
 add-i : tie.Need-add-i Inv-loop μ-loop
 add-i c = search needs
@@ -40,12 +40,12 @@ loop-less c = omega arith
 loop-again : tie.Need-loop-again Inv-loop μ-loop
 loop-again c =
     let l = c .before .before .before .loop in
-    (omega arith, l .inv .1 ∙ every-next is-degrees _ (l .i) 0 (omega arith) (le-leb _ MOST-DEGREES (c .if1 .left)))
+    (omega arith, l .inv .1 ∙ every-next is-degrees 0 _ (l .i) (omega arith) (le-leb _ MOST-DEGREES (c .if1 .left)))
 
 returns-2 : tie.Need-returns-2 Inv-loop μ-loop
 returns-2 c =
     let l = c .before .loop in
-    sym (l .inv .1 ∙ every-end is-degrees (c .before .before .args .days .now) (l .i) 0 (omega arith))
+    sym (l .inv .1 ∙ every-end is-degrees 0 (c .before .before .args .days .now) (l .i) (omega arith))
 
 pub are-all-degrees-spec : {M : Type 1} → statement M
 are-all-degrees-spec =

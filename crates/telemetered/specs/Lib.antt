@@ -1,0 +1,4 @@
+pub mod History
+pub mod Telemetered
+pub mod Flat
+pub mod Examples

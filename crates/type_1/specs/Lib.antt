@@ -1,0 +1,2 @@
+pub mod Type1
+pub mod Examples

@@ -1,0 +1,103 @@
+// Type 2 consumers: their consumption by a profile, and profiles.
+ghost use mathlib.Core.Path.{_≡_};
+ghost use Rattle.supply.specs.Amounts.{consumption-said};
+ghost use Rattle.type_2.specs.Type2.{type-2-right, type-2, year-right, profile, profile-said};
+use calendar::NO_BASIS;
+use calendar::OUT_OF_RANGE;
+use calendar::TOO_LARGE;
+use degree_days::FEWEST_DAYS;
+use degree_days::MOST_DAYS;
+use supply::ConsumptionAnswer;
+
+pub enum ProfileAnswer {
+    Refused(u8),
+    Wh(u64),
+}
+
+const MOST_CONSUMERS: u32 = 10000000;
+
+// 10^12: the most of a profile in Wh, of consumers times profile, and of a month's consumption.
+const TRILLION: u64 = 1000000000000;
+
+// The Wh of a kWh.
+const KILO: u64 = 1000;
+
+// Whether everything that is given for Type 2 consumers is in its range.
+fn is_type_2(
+    consumers: u32,
+    profile: u64,
+    g: u32,
+    winters: u8,
+    first: &[u32],
+    second: &[u32],
+) -> bool
+    ensures { λ r. ⌜ r ≡ type-2-right consumers profile g winters (now (first .entry)) (now (second .entry)) ⌝ }
+{
+    if MOST_CONSUMERS < consumers {
+        return false;
+    }
+    if TRILLION < profile {
+        return false;
+    }
+    if !degree_days::are_degrees(g) {
+        return false;
+    }
+    degree_days::are_winters(winters, first, second)
+}
+
+// The consumption of Type 2 consumers of one profile, on a gas day with g degree days, after one or two winters.
+pub fn type_2(
+    consumers: u32,
+    profile: u64,
+    g: u32,
+    winters: u8,
+    first: &[u32],
+    second: &[u32],
+) -> ConsumptionAnswer
+    ensures { λ r. ⌜ consumption-said r ≡ type-2 consumers profile g winters (now (first .entry)) (now (second .entry)) ⌝ }
+{
+    if !is_type_2(consumers, profile, g, winters, first, second) {
+        return ConsumptionAnswer::Refused(OUT_OF_RANGE);
+    }
+    let product = consumers as u64 * profile;
+    if TRILLION < product {
+        return ConsumptionAnswer::Refused(TOO_LARGE);
+    }
+    let mean = degree_days::mean_of_winters(winters, first, second);
+    let correction = degree_days::correction_of(g, mean);
+    supply::limited_to(numbers::nearest(product * correction.top, correction.bottom * KILO))
+}
+
+// Whether one year's figures of a profile are in their ranges.
+fn is_year(consumption: u64, consumers: u32, days: u32) -> bool
+    ensures { λ r. ⌜ r ≡ year-right consumption consumers days ⌝ }
+{
+    if TRILLION < consumption {
+        return false;
+    }
+    if MOST_CONSUMERS < consumers {
+        return false;
+    }
+    if days < FEWEST_DAYS {
+        return false;
+    }
+    days <= MOST_DAYS
+}
+
+// The profile of a month: its consumption, consumers and days in two years.
+pub fn profile(f1: u64, f2: u64, nc1: u32, nc2: u32, n1: u32, n2: u32) -> ProfileAnswer
+    ensures { λ r. ⌜ profile-said r ≡ profile f1 f2 nc1 nc2 n1 n2 ⌝ }
+{
+    if !is_year(f1, nc1, n1) {
+        return ProfileAnswer::Refused(OUT_OF_RANGE);
+    }
+    if !is_year(f2, nc2, n2) {
+        return ProfileAnswer::Refused(OUT_OF_RANGE);
+    }
+    let consumers = nc1 as u64 + nc2 as u64;
+    if consumers == 0 {
+        return ProfileAnswer::Refused(NO_BASIS);
+    }
+    let days = n1 as u64 + n2 as u64;
+    ProfileAnswer::Wh(numbers::nearest(KILO * (f1 + f2), consumers * days))
+}
