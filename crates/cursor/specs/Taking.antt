@@ -43,12 +43,12 @@ after s c n (suc k) = passed s (after s c n k) n
 unfoldable pub amounts : List ℕ → Cursor → ℕ → List ℤ
 amounts s c k = table (λ i. signed-64 (taken s (after s c 8 i) 8 .value)) k
 
--- the most numbers of a buffer that a program lends to a call, and what it holds before the call: −1, −2, −3, …
+-- the most numbers of a buffer that a program lends to a call, and what a buffer of n numbers holds before the call
 abbrev pub MOST-LENT : ℕ
 MOST-LENT = 2000
 
-unfoldable pub lent : List ℤ
-lent = table negsuc MOST-LENT
+unfoldable pub lent : ℕ → List ℤ
+lent n = table negsuc n
 
 two-bytes : taken (7 ∷ 1 ∷ 2 ∷ []) (good 1) 2 ≡ record { value = 513; next = good 3 }
 unfolding taken passed little-endian
@@ -69,3 +69,8 @@ no-meaning = refl
 then-cut-short : amounts (2 ∷ 0 ∷ 0 ∷ 0 ∷ 0 ∷ 0 ∷ 0 ∷ 0 ∷ 7 ∷ []) (good 0) 2 ≡ pos 2 ∷ pos 0 ∷ []
 unfolding amounts after taken passed table little-endian
 then-cut-short = refl
+
+-- −1, −2, −3
+three-lent : lent 3 ≡ negsuc 0 ∷ negsuc 1 ∷ negsuc 2 ∷ []
+unfolding lent table
+three-lent = refl

@@ -1,4 +1,4 @@
-// Numbers taken from a program's input one after the other, little-endian.
+// What the programs share: numbers taken from the input one after the other, little-endian, and the buffer lent to a call.
 ghost use mathlib.Core.Path.{_≡_};
 ghost use Prim.Native.Nat.{_≤_, _<_};
 ghost use lib.IntN.{pos};
@@ -163,7 +163,7 @@ pub fn lent_room() -> [i64; MOST_LENT]
 
 // What the buffer holds before the call: -1, -2, -3, ...
 pub fn lent_numbers() -> [i64; MOST_LENT]
-    ensures { λ r. ⌜ (r ≡ lent) × (MOST-LENT ≡ length r) ⌝ }
+    ensures { λ r. ⌜ (r ≡ lent MOST-LENT) × (MOST-LENT ≡ length r) ⌝ }
 {
     let mut numbers = lent_room();
     let mut i = 0;

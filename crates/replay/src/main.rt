@@ -32,7 +32,15 @@ struct Outcome {
     day: PointDay,
 }
 
-// ---- join, line, measure
+// ---- fresh, join, line, measure
+
+fn fresh(next: Cursor) -> Outcome {
+    output::text(b"fresh\n");
+    Outcome {
+        next,
+        day: point_day::fresh_day(),
+    }
+}
 
 fn join(s: &[u8], from: Cursor, day: PointDay) -> Outcome {
     let user = cursor::take_u16(s, from);
@@ -220,7 +228,7 @@ fn print_users(day: PointDay) {
     }
 }
 
-fn show(day: PointDay) {
+fn print_day(day: PointDay) {
     if !state::is_taken(day) {
         output::refused(2);
         return;
@@ -237,6 +245,11 @@ fn show(day: PointDay) {
     print_measurement(measurement);
     output::end();
     print_users(day);
+}
+
+fn show(next: Cursor, day: PointDay) -> Outcome {
+    print_day(day);
+    Outcome { next, day }
 }
 
 // ---- load
@@ -312,7 +325,7 @@ fn print_inventory(day: PointDay, lent: &mut [i64]) {
     output::end();
 }
 
-fn inventory(s: &[u8], from: Cursor, day: PointDay) -> Cursor {
+fn inventory(s: &[u8], from: Cursor, day: PointDay) -> Outcome {
     let length = cursor::at_most(cursor::take_u16(s, from), MOST_LENT as u64);
     let next = length.next;
     if next.ok {
@@ -320,7 +333,7 @@ fn inventory(s: &[u8], from: Cursor, day: PointDay) -> Cursor {
         let mut lent = cursor::lent_numbers();
         print_inventory(day, &mut lent[..m]);
     }
-    next
+    Outcome { next, day }
 }
 
 // Room for the report. (A call, so that no proof sees its bytes one by one.)
@@ -336,7 +349,8 @@ fn print_report(file: &[u8]) {
     io::write_all(STDOUT_FILENO, &text[..n]);
 }
 
-fn day_file(s: &[u8], from: Cursor) -> Cursor {
+// The report on the day file; the point-day of the run stays.
+fn day_file(s: &[u8], from: Cursor, day: PointDay) -> Outcome {
     let length = cursor::take_u32(s, from);
     let start = length.next;
     let next = cursor::pass(s, start, length.value as usize);
@@ -345,7 +359,7 @@ fn day_file(s: &[u8], from: Cursor) -> Cursor {
         let end = next.at;
         print_report(&s[at..end]);
     }
-    next
+    Outcome { next, day }
 }
 
 // ---- the run
@@ -356,13 +370,7 @@ fn step(s: &[u8], from: Cursor, day: PointDay) -> Outcome {
     let next = operation.next;
     let byte = operation.value;
     match byte {
-        0 => {
-            output::text(b"fresh\n");
-            Outcome {
-                next,
-                day: point_day::fresh_day(),
-            }
-        }
+        0 => fresh(next),
         1 => join(s, next, day),
         2 => line(s, next, day),
         3 => edit(s, next, day),
@@ -371,19 +379,10 @@ fn step(s: &[u8], from: Cursor, day: PointDay) -> Outcome {
         6 => stand_in(s, next, day),
         7 => revise(next, day),
         8 => start_final(next, day),
-        9 => {
-            show(day);
-            Outcome { next, day }
-        }
+        9 => show(next, day),
         10 => load(s, next, day),
-        11 => {
-            let after = inventory(s, next, day);
-            Outcome { next: after, day }
-        }
-        12 => {
-            let after = day_file(s, next);
-            Outcome { next: after, day }
-        }
+        11 => inventory(s, next, day),
+        12 => day_file(s, next, day),
         _ => Outcome {
             next: cursor::failed(next.at),
             day,
