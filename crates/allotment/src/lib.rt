@@ -11,7 +11,7 @@ ghost use Rattle.proration.specs.Proration.{WEIGHT, prorateZ};
 ghost use Rattle.point_day.specs.Limits.{USERS, CELLS, KINDS, LIMIT};
 ghost use Rattle.point_day.specs.Calls.{refused, by-basis, or-kind-1, kinds, allot};
 ghost use Rattle.point_day.specs.Answers.{allot-answer};
-ghost use Rattle.point_day.specs.Struct.{padded, outcome, called};
+ghost use Rattle.point_day.specs.Struct.{Sized, padded, taken, outcome, called};
 ghost use Rattle.allotment.specs.Slots.{Metered, metered, weights, by-all-kinds, basis-weights, balance-of, shares-of, balances-of, all-balances, with-balances};
 use point_day::AllotAnswer;
 use point_day::AllotResult;
@@ -276,13 +276,11 @@ fn refuse(number: u8, day: PointDay) -> AllotResult
     }
 }
 
-// Allot: the balance over users and their kinds; the stage is then allotted.
-pub fn allot(day: PointDay) -> AllotResult
+// Allot, on a point-day that is known to be taken.
+pub fn allot_taken(day: PointDay) -> AllotResult
+    requires { ⌜ (taken day ≡ true) × Sized day ⌝ }
     ensures { λ r. ⌜ outcome (allot-answer (r .answer)) (r .day) ≡ called allot day ⌝ }
 {
-    if !state::is_taken(day) {
-        return refuse(2, day);
-    }
     if day.allotted {
         return refuse(1, day);
     }
@@ -304,4 +302,14 @@ pub fn allot(day: PointDay) -> AllotResult
         answer: AllotAnswer::Done,
         day: next,
     }
+}
+
+// Allot: the balance over users and their kinds; the stage is then allotted.
+pub fn allot(day: PointDay) -> AllotResult
+    ensures { λ r. ⌜ outcome (allot-answer (r .answer)) (r .day) ≡ called allot day ⌝ }
+{
+    if !state::is_taken(day) {
+        return refuse(2, day);
+    }
+    allot_taken(day)
 }
