@@ -1,7 +1,8 @@
 ghost use mathlib.Core.Path.{_≡_};
+ghost use mathlib.Core.Bool.{true};
 ghost use Rattle.point_day.specs.Calls.{refused, allot};
 ghost use Rattle.point_day.specs.Answers.{allot-answer};
-ghost use Rattle.point_day.specs.Struct.{outcome, called};
+ghost use Rattle.point_day.specs.Struct.{Sized, taken, outcome, called};
 ghost use Rattle.allotment.specs.Allotted.{with-balances};
 use point_day::AllotAnswer;
 use point_day::AllotResult;
@@ -29,13 +30,11 @@ fn refuse(number: u8, day: PointDay) -> AllotResult
     }
 }
 
-// Allot: the balance over users and their kinds; the stage is then allotted.
-pub fn allot(day: PointDay) -> AllotResult
+// Allot, on a point-day that is known to be taken.
+pub fn allot_taken(day: PointDay) -> AllotResult
+    requires { ⌜ (taken day ≡ true) × Sized day ⌝ }
     ensures { λ r. ⌜ outcome (allot-answer (r .answer)) (r .day) ≡ called allot day ⌝ }
 {
-    if !state::is_taken(day) {
-        return refuse(2, day);
-    }
     if day.allotted {
         return refuse(1, day);
     }
@@ -57,4 +56,14 @@ pub fn allot(day: PointDay) -> AllotResult
         answer: AllotAnswer::Done,
         day: next,
     }
+}
+
+// Allot: the balance over users and their kinds; the stage is then allotted.
+pub fn allot(day: PointDay) -> AllotResult
+    ensures { λ r. ⌜ outcome (allot-answer (r .answer)) (r .day) ≡ called allot day ⌝ }
+{
+    if !state::is_taken(day) {
+        return refuse(2, day);
+    }
+    allot_taken(day)
 }

@@ -41,7 +41,7 @@ fn finish(out: &mut [u8], gas_day: u64, day: PointDay) -> usize
     ensures { λ r. ⌜ r ≡ length (text (in-order «gas_day» (allot ∷ []) day)) ⌝ }
     ensures { λ r. ⌜ now (out .exit) ≡ written (now (out .entry)) 0 (text (in-order «gas_day» (allot ∷ []) day)) ⌝ }
 {
-    let allotted = allotment::allot(day);
+    let allotted = allotment::allot_taken(day);
     let answer = allotted.answer;
     match answer {
         AllotAnswer::Refused(number) => report_text::put_refused(out, number),

@@ -5,8 +5,8 @@ use borrow.Author.Needs.{needs}
 use Rattle.day_report.proofs.finish.Statement.{statement}
 use Rattle.day_report.proofs.finish.Tie as tie
 
-allot-requires : tie.Need-allot-requires
-allot-requires c κs = search needs
+allot-taken-requires : tie.Need-allot-taken-requires
+allot-taken-requires c κs = (c .before .pre .2, search needs)
 
 enum-known-answer : tie.Need-enum-known-answer
 enum-known-answer c = search needs
@@ -20,26 +20,26 @@ enum-told c = search needs
 put-allotted-requires : tie.Need-put-allotted-requires
 put-allotted-requires c κs =
     let z : Sized (c .before .before .before .before .before .before .args .day) = search needs in
-    let w : Sized (c .before .before .before .before .allot .result .day) = search needs in
-    (c .before .before .before .before .before .before .pre .0, allot-taken (c .before .before .before .before .before .before .args .day) (c .before .before .before .before .allot .result .day) (c .before .before .before .before .allot .result .answer) (c .before .before .before .before .allot .ensures) z (c .before .before .before .before .before .before .pre .2) (c .before .before .before .before .before .before .pre .3), w, c .before .before .before .before .before .before .pre .1)
+    let w : Sized (c .before .before .before .before .allot-taken .result .day) = search needs in
+    (c .before .before .before .before .before .before .pre .0, allot-taken (c .before .before .before .before .before .before .args .day) (c .before .before .before .before .allot-taken .result .day) (c .before .before .before .before .allot-taken .result .answer) (c .before .before .before .before .allot-taken .ensures) z (c .before .before .before .before .before .before .pre .2) (c .before .before .before .before .before .before .pre .3), w, c .before .before .before .before .before .before .pre .1)
 
 same-length : tie.Need-same-length
 same-length c = search needs
 
 returns : tie.Need-returns
-returns c = reported (c .before .before .before .before .before .before .before .before .before .args .out .now) (allot-refused (c .before .before .before .before .before .before .before .before .before .args .day) (c .before .before .before .before .before .before .before .allot .result .day) (c .before .before .before .before .before .before .before .allot .result .answer) (c .before .before .before .before .before .before .before .allot .ensures) (c .before .before .before .before .before .answer .given .0 .0) (c .before .before .before .before .before .answer .given .1) (c .before .before .before .before .before .before .before .before .before .args .gas-day)) (c .before .before .put-refused .ensures .0) (c .before .before .put-refused .ensures .1)
+returns c = reported (c .before .before .before .before .before .before .before .before .before .args .out .now) (allot-refused (c .before .before .before .before .before .before .before .before .before .args .day) (c .before .before .before .before .before .before .before .allot-taken .result .day) (c .before .before .before .before .before .before .before .allot-taken .result .answer) (c .before .before .before .before .before .before .before .allot-taken .ensures) (c .before .before .before .before .before .answer .given .0 .0) (c .before .before .before .before .before .answer .given .1) (c .before .before .before .before .before .before .before .before .before .args .gas-day)) (c .before .before .put-refused .ensures .0) (c .before .before .put-refused .ensures .1)
 
 same-length-2 : tie.Need-same-length-2
 same-length-2 c = search needs
 
 returns-2 : tie.Need-returns-2
-returns-2 c = reported (c .before .before .before .before .before .before .before .before .before .args .out .now) (allot-done (c .before .before .before .before .before .before .before .before .before .args .day) (c .before .before .before .before .before .before .before .allot .result .day) (c .before .before .before .before .before .before .before .allot .result .answer) (c .before .before .before .before .before .before .before .allot .ensures) (c .before .before .before .before .before .enum-told .given .1) (c .before .before .before .before .before .before .before .before .before .args .gas-day)) (c .before .before .put-allotted .ensures .0) (c .before .before .put-allotted .ensures .1)
+returns-2 c = reported (c .before .before .before .before .before .before .before .before .before .args .out .now) (allot-done (c .before .before .before .before .before .before .before .before .before .args .day) (c .before .before .before .before .before .before .before .allot-taken .result .day) (c .before .before .before .before .before .before .before .allot-taken .result .answer) (c .before .before .before .before .before .before .before .allot-taken .ensures) (c .before .before .before .before .before .enum-told .given .1) (c .before .before .before .before .before .before .before .before .before .args .gas-day)) (c .before .before .put-allotted .ensures .0) (c .before .before .put-allotted .ensures .1)
 
 pub finish-spec : {M : Type 1} → statement M
 finish-spec =
     tie.close
     (tie.spec
-    allot-requires
+    allot-taken-requires
     enum-known-answer
     put-refused-requires
     enum-told
