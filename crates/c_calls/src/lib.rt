@@ -10,7 +10,7 @@ ghost use Rattle.wire.specs.Bytes.{signed-64};
 ghost use Rattle.point_day.specs.Limits.{USERS, CELLS};
 ghost use Rattle.point_day.specs.Calls.{measure};
 ghost use Rattle.point_day.specs.Struct.{called};
-ghost use Rattle.c_calls.specs.Layout.{LENGTH, LAST-NUMBER, up-to, measurement-laid-out, head-laid-out, is-laid-out, stage-of, measurement-of, day-in, stage-number, emission-number, downstream-number, head, numbers-of};
+ghost use Rattle.c_calls.specs.Layout.{LENGTH, USERS-AT, LAST-NUMBER, part, up-to, measurement-laid-out, head-laid-out, is-laid-out, stage-of, measurement-of, day-in, stage-number, emission-number, downstream-number, head, numbers-of};
 ghost use Rattle.c_calls.specs.Plain.{plain, plain-call};
 use point_day::CELLS;
 use point_day::MeasureAnswer;
@@ -214,8 +214,9 @@ fn size_at(xs: &[i64], i: usize) -> u64
     wire::magnitude(xs[i])
 }
 
+// The point-day that numbers stand for.
 fn day_in(xs: &[i64]) -> PointDay
-    requires { ⌜ is-laid-out (now xs) ≡ true ⌝ }
+    requires { ⌜ (length (now xs) ≡ LENGTH) × (every (up-to LAST-NUMBER) (part USERS-AT USERS (now xs)) ≡ true) ⌝ }
     ensures { λ r. ⌜ r ≡ day-in (now (xs .entry)) ⌝ }
 {
     let stage = stage_of(size_at(xs, 1));

@@ -1,15 +1,8 @@
-use native.Mathlib.Omega.{arith}
+-- `c_calls::day_in` meets its contract. Assumes nothing.
+use Rattle.c_calls.specs.Layout.{day-in}
 use borrow.Author.Needs.{needs}
 use Rattle.c_calls.proofs.day_in.Statement.{statement}
 use Rattle.c_calls.proofs.day_in.Tie as tie
-use Rattle.c_calls.proofs.day_in.Reads as reads
-use Rattle.c_calls.proofs.day_in.Lts as lts
-use Rattle.c_calls.proofs.cells_in.Reads as cells-in-reads
-use Rattle.c_calls.proofs.column_in.Reads as column-in-reads
-use Rattle.c_calls.proofs.measurement_of.Reads as measurement-of-reads
-use Rattle.c_calls.proofs.size_at.Reads as size-at-reads
-use Rattle.c_calls.proofs.stage_of.Reads as stage-of-reads
-use Rattle.c_calls.proofs.users_in.Reads as users-in-reads
 
 size-at-requires : tie.Need-size-at-requires
 size-at-requires c κs = search needs
@@ -96,7 +89,10 @@ size-at-requires-6 : tie.Need-size-at-requires-6
 size-at-requires-6 c κs = search needs
 
 returns : tie.Need-returns
-returns c = search needs
+unfolding day-in
+returns c =
+    rw
+    (c .before .before .before .before .before .before .before .before .before .before .before .before .before .before .before .before .stage-of .ensures, c .before .before .before .before .before .before .before .before .before .before .before .before .before .before .before .before .before .size-at .ensures, c .before .before .before .before .before .before .before .before .before .before .before .before .measurement-of .ensures, c .before .before .before .before .before .before .before .before .before .before .before .before .before .before .before .size-at2 .ensures, c .before .before .before .before .before .before .before .before .before .before .before .before .before .before .size-at3 .ensures, c .before .before .before .before .before .before .before .before .before .before .before .before .before .size-at4 .ensures, c .before .before .before .before .before .before .before .before .before .before .users-in .ensures, c .before .before .before .before .before .before .before .before .cells-in .ensures, c .before .before .before .before .before .before .cells-in2 .ensures, c .before .before .before .before .cells-in3 .ensures, c .before .before .column-in .ensures, c .before .size-at5 .ensures, c .size-at6 .ensures)
 
 pub day-in-spec : {M : Type 1} → statement M
 day-in-spec =

@@ -1,15 +1,16 @@
-use native.Mathlib.Omega.{arith}
+-- `c_calls::head` meets its contract. Assumes nothing.
+use mathlib.Core.Path.{_≡_, ap, _∙_}
+use mathlib.Core.List.{List, [], _∷_}
+use mir.Syntax.{w64}
+use mir.Val.{SFits}
+use mir.Facts.{toZ-ofZ}
+use Rattle.numbers.specs.Sums.{bit}
+use Rattle.wire.specs.Bytes.{signed-64}
+use Rattle.point_day.specs.Day.{is-measured}
+use Rattle.c_calls.specs.Layout.{head, stage-number, emission-number, downstream-number}
 use borrow.Author.Needs.{needs}
 use Rattle.c_calls.proofs.head.Statement.{statement}
 use Rattle.c_calls.proofs.head.Tie as tie
-use Rattle.c_calls.proofs.head.Reads as reads
-use Rattle.c_calls.proofs.head.Lts as lts
-use Rattle.c_calls.proofs.downstream_number.Reads as downstream-number-reads
-use Rattle.c_calls.proofs.emission_number.Reads as emission-number-reads
-use Rattle.c_calls.proofs.flag_number.Reads as flag-number-reads
-use Rattle.c_calls.proofs.stage_number.Reads as stage-number-reads
-use Rattle.state.proofs.is_measured.Reads as is-measured-reads
-use Rattle.wire.proofs.to_signed.Reads as to-signed-reads
 
 stage-number-requires : tie.Need-stage-number-requires
 stage-number-requires c κs = search needs
@@ -48,7 +49,21 @@ to-signed-requires-6 : tie.Need-to-signed-requires-6
 to-signed-requires-6 c κs = search needs
 
 returns : tie.Need-returns
-returns c = search needs
+unfolding head
+returns c =
+    let s = c .before .before .before .before .before .before .before .before .before .before .before .before in
+    let h1 : SFits w64 (c .before .before .before .before .before .before .before .before .before .before .to-signed .result) = search needs in
+    let h2 : SFits w64 (c .before .before .before .before .before .before .before .before .to-signed2 .result) = search needs in
+    let h3 : SFits w64 (c .before .before .before .before .before .to-signed3 .result) = search needs in
+    let h4 : SFits w64 (c .before .before .before .to-signed4 .result) = search needs in
+    let h5 : SFits w64 (c .before .to-signed5 .result) = search needs in
+    let h6 : SFits w64 (c .to-signed6 .result) = search needs in
+    let e1 : c .before .before .before .before .before .before .before .before .before .before .to-signed .result ≡ signed-64 (stage-number (s .args .stage)) = c .before .before .before .before .before .before .before .before .before .before .to-signed .ensures ∙ ap signed-64 (c .before .before .before .before .before .before .before .before .before .before .before .stage-number .ensures) in
+    let e2 : c .before .before .before .before .before .before .before .before .to-signed2 .result ≡ signed-64 (bit (s .args .allotted)) = c .before .before .before .before .before .before .before .before .to-signed2 .ensures ∙ ap signed-64 (c .before .before .before .before .before .before .before .before .before .flag-number .ensures) in
+    let e3 : c .before .before .before .before .before .to-signed3 .result ≡ signed-64 (bit (is-measured (s .args .measurement))) = c .before .before .before .before .before .to-signed3 .ensures ∙ ap signed-64 (c .before .before .before .before .before .before .flag-number2 .ensures ∙ ap bit (c .before .before .before .before .before .before .before .is-measured .ensures)) in
+    let e4 : c .before .before .before .to-signed4 .result ≡ signed-64 (emission-number (s .args .measurement)) = c .before .before .before .to-signed4 .ensures ∙ ap signed-64 (c .before .before .before .before .emission-number .ensures) in
+    let e5 : c .before .to-signed5 .result ≡ signed-64 (downstream-number (s .args .measurement)) = c .before .to-signed5 .ensures ∙ ap signed-64 (c .before .before .downstream-number .ensures) in
+    rw (toZ-ofZ (s .fits .value), toZ-ofZ h1, toZ-ofZ h2, toZ-ofZ h3, toZ-ofZ h4, toZ-ofZ h5, toZ-ofZ h6, e1, e2, e3, e4, e5, c .to-signed6 .ensures)
 
 pub head-spec : {M : Type 1} → statement M
 head-spec =
