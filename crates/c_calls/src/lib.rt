@@ -7,16 +7,21 @@ ghost use lib.ListN.{length, take, drop, replicate};
 ghost use Rattle.numbers.specs.Sums.{bit, atZ};
 ghost use Rattle.numbers.specs.Lists.{every};
 ghost use Rattle.wire.specs.Bytes.{signed-64};
-ghost use Rattle.point_day.specs.Limits.{USERS, CELLS};
-ghost use Rattle.point_day.specs.Calls.{measure};
+ghost use Rattle.point_day.specs.Limits.{USERS, CELLS, TOLERANCE};
+ghost use Rattle.point_day.specs.Calls.{join, line, measure, allot, revise, start-final};
 ghost use Rattle.point_day.specs.Struct.{called};
 ghost use Rattle.c_calls.specs.Layout.{LENGTH, USERS-AT, LAST-NUMBER, part, up-to, measurement-laid-out, head-laid-out, is-laid-out, stage-of, measurement-of, day-in, stage-number, emission-number, downstream-number, head, numbers-of};
-ghost use Rattle.c_calls.specs.Plain.{plain, plain-call};
+ghost use Rattle.c_calls.specs.Plain.{plain, plain-call, plain-fresh};
+use point_day::AllotAnswer;
 use point_day::CELLS;
+use point_day::JoinAnswer;
+use point_day::LineAnswer;
 use point_day::MeasureAnswer;
 use point_day::Measurement;
 use point_day::PointDay;
+use point_day::ReviseAnswer;
 use point_day::Stage;
+use point_day::StartFinalAnswer;
 use point_day::USERS;
 
 // A point-day in plain numbers: so many, and where the arrays start.
@@ -340,8 +345,60 @@ fn write(out: &mut [i64], value: i64, day: PointDay) -> u8
     0
 }
 
-// ---- The calls
+// ---- The calls: each answers 0, or document 01's number of the refusal, and then writes nothing
 
+// A fresh point-day.
+#[no_mangle]
+pub extern "C" fn seatpomelo_fresh(day: &mut [i64]) -> u8
+    ensures { λ r. ⌜ plain r (now (day .exit)) ≡ plain-fresh (now (day .entry)) ⌝ }
+{
+    if day.len() != LENGTH {
+        return OUT_OF_RANGE;
+    }
+    write(day, 0, point_day::fresh_day())
+}
+
+// Join.
+#[no_mangle]
+pub extern "C" fn seatpomelo_join(day: &mut [i64], user: u16) -> u8
+    ensures { λ r. ⌜ plain r (now (day .exit)) ≡ plain-call (called (join user)) (now (day .entry)) ⌝ }
+{
+    if !is_laid_out(day) {
+        return OUT_OF_RANGE;
+    }
+    let r = entry::join(day_in(day), user);
+    let answer = r.answer;
+    let after = r.day;
+    match answer {
+        JoinAnswer::Refused(number) => number,
+        JoinAnswer::Done => write(day, 0, after),
+    }
+}
+
+// Line; its value is the losses added.
+#[no_mangle]
+pub extern "C" fn seatpomelo_line(
+    day: &mut [i64],
+    user: u16,
+    kind: u8,
+    consumption: u64,
+    coefficient: u64,
+) -> u8
+    ensures { λ r. ⌜ plain r (now (day .exit)) ≡ plain-call (called (line user kind consumption coefficient)) (now (day .entry)) ⌝ }
+{
+    if !is_laid_out(day) {
+        return OUT_OF_RANGE;
+    }
+    let r = entry::line(day_in(day), user, kind, consumption, coefficient);
+    let answer = r.answer;
+    let after = r.day;
+    match answer {
+        LineAnswer::Refused(number) => number,
+        LineAnswer::LossesAdded(added) => write(day, wire::to_signed(added), after),
+    }
+}
+
+// Measure.
 #[no_mangle]
 pub extern "C" fn seatpomelo_measure(day: &mut [i64], emission: u64, downstream: u64) -> u8
     ensures { λ r. ⌜ plain r (now (day .exit)) ≡ plain-call (called (measure emission downstream)) (now (day .entry)) ⌝ }
@@ -355,5 +412,57 @@ pub extern "C" fn seatpomelo_measure(day: &mut [i64], emission: u64, downstream:
     match answer {
         MeasureAnswer::Refused(number) => number,
         MeasureAnswer::Done => write(day, 0, after),
+    }
+}
+
+// Allot.
+#[no_mangle]
+pub extern "C" fn seatpomelo_allot(day: &mut [i64]) -> u8
+    ensures { λ r. ⌜ plain r (now (day .exit)) ≡ plain-call (called allot) (now (day .entry)) ⌝ }
+{
+    if !is_laid_out(day) {
+        return OUT_OF_RANGE;
+    }
+    let r = allotment::allot(day_in(day));
+    let answer = r.answer;
+    let after = r.day;
+    match answer {
+        AllotAnswer::Refused(number) => number,
+        AllotAnswer::Done => write(day, 0, after),
+    }
+}
+
+// Revise; its value is R.
+#[no_mangle]
+pub extern "C" fn seatpomelo_revise(day: &mut [i64]) -> u8
+    ensures { λ r. ⌜ plain r (now (day .exit)) ≡ plain-call (called (revise TOLERANCE)) (now (day .entry)) ⌝ }
+{
+    if !is_laid_out(day) {
+        return OUT_OF_RANGE;
+    }
+    let r = revision::revise(day_in(day));
+    let answer = r.answer;
+    let after = r.day;
+    match answer {
+        ReviseAnswer::Refused(number) => number,
+        ReviseAnswer::WithinTolerance(amount) => write(day, amount, after),
+        ReviseAnswer::Assigned(amount) => write(day, amount, after),
+    }
+}
+
+// Start-final.
+#[no_mangle]
+pub extern "C" fn seatpomelo_start_final(day: &mut [i64]) -> u8
+    ensures { λ r. ⌜ plain r (now (day .exit)) ≡ plain-call (called start-final) (now (day .entry)) ⌝ }
+{
+    if !is_laid_out(day) {
+        return OUT_OF_RANGE;
+    }
+    let r = final_stage::start_final(day_in(day));
+    let answer = r.answer;
+    let after = r.day;
+    match answer {
+        StartFinalAnswer::Refused(number) => number,
+        StartFinalAnswer::Done => write(day, 0, after),
     }
 }

@@ -49,7 +49,7 @@ returns-2 c =
     let h5 : SFits w64 (atZ xs 5) = search needs in
     let h6 : SFits w64 (atZ xs 6) = search needs in
     let h : head-laid-out (atZ xs 1) (atZ xs 2) (atZ xs 3) (atZ xs 4) (atZ xs 5) (atZ xs 6) ≡ false =
-        sym (rw (toZ-ofZ h1, toZ-ofZ h2, toZ-ofZ h3, toZ-ofZ h4, toZ-ofZ h5, toZ-ofZ h6) at (c .before .head-laid-out .ensures)) ∙ not-true _ (c .if2 .taken) in
+    sym (rw (toZ-ofZ h1, toZ-ofZ h2, toZ-ofZ h3, toZ-ofZ h4, toZ-ofZ h5, toZ-ofZ h6) at (c .before .head-laid-out .ensures)) ∙ not-true _ (c .if2 .taken) in
     rw (eq-eqb (length xs) LENGTH (c .before .before .before .before .before .before .before .before .if1 .left), h)
 
 sub-all-up-to : tie.Need-sub-all-up-to
@@ -76,7 +76,7 @@ returns-3 c =
     let h5 : SFits w64 (atZ xs 5) = search needs in
     let h6 : SFits w64 (atZ xs 6) = search needs in
     let h : head-laid-out (atZ xs 1) (atZ xs 2) (atZ xs 3) (atZ xs 4) (atZ xs 5) (atZ xs 6) ≡ true =
-        sym (rw (toZ-ofZ h1, toZ-ofZ h2, toZ-ofZ h3, toZ-ofZ h4, toZ-ofZ h5, toZ-ofZ h6) at (c .before .before .before .head-laid-out .ensures)) ∙ not-false _ (c .before .before .if2 .left) in
+    sym (rw (toZ-ofZ h1, toZ-ofZ h2, toZ-ofZ h3, toZ-ofZ h4, toZ-ofZ h5, toZ-ofZ h6) at (c .before .before .before .head-laid-out .ensures)) ∙ not-false _ (c .before .before .if2 .left) in
     rw (eq-eqb (length xs) LENGTH (c .before .before .before .before .before .before .before .before .before .before .if1 .left), h) (c .all-up-to .ensures)
 
 pub is-laid-out-spec : {M : Type 1} → statement M
