@@ -1,6 +1,7 @@
 -- A call on a point-day in plain numbers. Assumes nothing.
+use mathlib.Core.Bool.{Bool}
 use mathlib.Core.List.{List}
-use Prim.Native.Nat.{ℕ}
+use Prim.Native.Nat.{ℕ, _*_}
 use lib.Dec.{eqb}
 use lib.IntN.{ℤ, pos}
 use lib.ListN.{length}
@@ -10,9 +11,9 @@ use Rattle.wire.specs.Bytes.{signed-64}
 use Rattle.point_day.specs.Limits.{USERS, ROWS, TOLERANCE}
 use Rattle.point_day.specs.Calls.{Answer, refused, done, losses-added, rows-looked-at, within-tolerance, revision-assigned, stand-in}
 use Rattle.point_day.specs.Day.{fresh}
-use Rattle.point_day.specs.Struct.{Outcome, outcome, called, laid, rows-of}
+use Rattle.point_day.specs.Struct.{Outcome, called, laid, rows-of}
 use Rattle.point_day.specs.declared.PointDay.{PointDay}
-use Rattle.point_day.specs.declared.StandInRows.{StandInRows}
+use Rattle.stand_in.specs.Openings.{rows}
 use Rattle.c_calls.specs.Layout.{LENGTH, is-laid-out, day-in, numbers-of}
 
 -- what a call gives back: 0 or the number of the refusal, and the numbers afterwards
@@ -41,15 +42,12 @@ plain-call call xs =
 unfoldable pub plain-fresh : List ℤ → Plain
 plain-fresh xs = pick (eqb (length xs) LENGTH) (plain 0 (numbers-of (pos 0) (laid fresh))) (plain 2 xs)
 
--- the rows of a stand-in in three lists: fifteen counts, and user and amount of pair j of row i at 64 × i + j
-abbrev pub rows : List ℕ → List ℕ → List ℤ → StandInRows
-rows cs us zs = record { counts = cs; users = us; amounts = zs }
+-- the rows of a stand-in in three lists: fifteen counts; user and amount of pair j of row i at 64 × i + j
+unfoldable pub rows-laid-out : List ℕ → List ℕ → List ℤ → Bool
+rows-laid-out cs us zs =
+    both (eqb (length cs) ROWS) (both (eqb (length us) (USERS * ROWS)) (eqb (length zs) (USERS * ROWS)))
 
-abbrev pub PAIRS : ℕ
-PAIRS = 960
-
--- rows in lists of other lengths are a list outside its stated range
+-- lists of other lengths are outside their stated range
 unfoldable pub plain-stand-in : List ℕ → List ℕ → List ℤ → List ℤ → Plain
 plain-stand-in cs us zs xs =
-    pick (both (eqb (length cs) ROWS) (both (eqb (length us) PAIRS) (eqb (length zs) PAIRS)))
-    (plain-call (called (stand-in TOLERANCE (rows-of (rows cs us zs)))) xs) (plain 2 xs)
+    pick (rows-laid-out cs us zs) (plain-call (called (stand-in TOLERANCE (rows-of (rows cs us zs)))) xs) (plain 2 xs)

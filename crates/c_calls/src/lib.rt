@@ -1,26 +1,31 @@
 ghost use mathlib.Core.Path.{_≡_};
 ghost use mathlib.Core.Bool.{Bool, true, false, not};
 ghost use mathlib.Core.List.{map, _∷_, _++_};
-ghost use Prim.Native.Nat.{ℕ, _+_, _≤_, _<_};
+ghost use Prim.Native.Nat.{ℕ, _+_, _*_, _≤_, _<_};
 ghost use lib.IntN.{pos, natAbs};
 ghost use lib.ListN.{length, take, drop, replicate};
 ghost use Rattle.numbers.specs.Sums.{bit, atZ};
 ghost use Rattle.numbers.specs.Lists.{every};
 ghost use Rattle.wire.specs.Bytes.{signed-64};
-ghost use Rattle.point_day.specs.Limits.{USERS, CELLS, TOLERANCE};
+ghost use Rattle.point_day.specs.Limits.{USERS, CELLS, ROWS, TOLERANCE};
 ghost use Rattle.point_day.specs.Calls.{join, line, measure, allot, revise, start-final};
 ghost use Rattle.point_day.specs.Struct.{called};
+ghost use Rattle.stand_in.specs.Openings.{rows};
 ghost use Rattle.c_calls.specs.Layout.{LENGTH, USERS-AT, LAST-NUMBER, part, up-to, measurement-laid-out, head-laid-out, is-laid-out, stage-of, measurement-of, day-in, stage-number, emission-number, downstream-number, head, numbers-of};
-ghost use Rattle.c_calls.specs.Plain.{plain, plain-call, plain-fresh};
+ghost use Rattle.c_calls.specs.Plain.{plain, plain-call, plain-fresh, rows-laid-out, plain-stand-in};
 use point_day::AllotAnswer;
 use point_day::CELLS;
 use point_day::JoinAnswer;
 use point_day::LineAnswer;
 use point_day::MeasureAnswer;
 use point_day::Measurement;
+use point_day::PAIRS;
 use point_day::PointDay;
+use point_day::ROWS;
 use point_day::ReviseAnswer;
 use point_day::Stage;
+use point_day::StandInAnswer;
+use point_day::StandInRows;
 use point_day::StartFinalAnswer;
 use point_day::USERS;
 
@@ -345,6 +350,78 @@ fn write(out: &mut [i64], value: i64, day: PointDay) -> u8
     0
 }
 
+// ---- The rows of a stand-in
+
+fn rows_laid_out(counts: &[usize], users: &[u16], amounts: &[i64]) -> bool
+    ensures { λ r. ⌜ r ≡ rows-laid-out (now (counts .entry)) (now (users .entry)) (now (amounts .entry)) ⌝ }
+{
+    if counts.len() != ROWS {
+        return false;
+    }
+    if users.len() != PAIRS {
+        return false;
+    }
+    amounts.len() == PAIRS
+}
+
+fn put_counts(out: &mut [usize], xs: &[usize])
+    requires { ⌜ length (now out) ≡ length (now xs) ⌝ }
+    ensures { λ _. ⌜ now (out .exit) ≡ now (xs .entry) ⌝ }
+{
+    let mut i = 0;
+    while i < xs.len() {
+        out[i] = xs[i];
+        i += 1;
+    }
+}
+
+fn put_pair_users(out: &mut [u16], xs: &[u16])
+    requires { ⌜ length (now out) ≡ length (now xs) ⌝ }
+    ensures { λ _. ⌜ now (out .exit) ≡ now (xs .entry) ⌝ }
+{
+    let mut i = 0;
+    while i < xs.len() {
+        out[i] = xs[i];
+        i += 1;
+    }
+}
+
+// Zeros. (Calls, so that no proof above sees their elements one by one.)
+fn no_counts() -> [usize; ROWS]
+    ensures { λ r. ⌜ r ≡ replicate ROWS 0 ⌝ }
+{
+    [0; ROWS]
+}
+
+fn no_pair_users() -> [u16; PAIRS]
+    ensures { λ r. ⌜ r ≡ replicate (USERS * ROWS) 0 ⌝ }
+{
+    [0; PAIRS]
+}
+
+fn no_pair_amounts() -> [i64; PAIRS]
+    ensures { λ r. ⌜ r ≡ replicate (USERS * ROWS) (pos 0) ⌝ }
+{
+    [0; PAIRS]
+}
+
+fn rows_in(counts: &[usize], users: &[u16], amounts: &[i64]) -> StandInRows
+    requires { ⌜ (length (now counts) ≡ ROWS) × (length (now users) ≡ USERS * ROWS) × (length (now amounts) ≡ USERS * ROWS) ⌝ }
+    ensures { λ r. ⌜ r ≡ rows (now (counts .entry)) (now (users .entry)) (now (amounts .entry)) ⌝ }
+{
+    let mut row_counts = no_counts();
+    let mut pair_users = no_pair_users();
+    let mut pair_amounts = no_pair_amounts();
+    put_counts(&mut row_counts, counts);
+    put_pair_users(&mut pair_users, users);
+    put(&mut pair_amounts, 0, amounts);
+    StandInRows {
+        counts: row_counts,
+        users: pair_users,
+        amounts: pair_amounts,
+    }
+}
+
 // ---- The calls: each answers 0, or document 01's number of the refusal, and then writes nothing
 
 // A fresh point-day.
@@ -464,5 +541,31 @@ pub extern "C" fn seatpomelo_start_final(day: &mut [i64]) -> u8
     match answer {
         StartFinalAnswer::Refused(number) => number,
         StartFinalAnswer::Done => write(day, 0, after),
+    }
+}
+
+// Stand-in, with its rows in three lists; its value is the rows looked at.
+#[no_mangle]
+pub extern "C" fn seatpomelo_stand_in(
+    day: &mut [i64],
+    counts: &[usize],
+    users: &[u16],
+    amounts: &[i64],
+) -> u8
+    ensures { λ r. ⌜ plain r (now (day .exit)) ≡ plain-stand-in (now (counts .entry)) (now (users .entry)) (now (amounts .entry)) (now (day .entry)) ⌝ }
+{
+    if !rows_laid_out(counts, users, amounts) {
+        return OUT_OF_RANGE;
+    }
+    if !is_laid_out(day) {
+        return OUT_OF_RANGE;
+    }
+    let rows = rows_in(counts, users, amounts);
+    let r = stand_in::stand_in(day_in(day), rows);
+    let answer = r.answer;
+    let after = r.day;
+    match answer {
+        StandInAnswer::Refused(number) => number,
+        StandInAnswer::RowsLookedAt(seen) => write(day, wire::to_signed(seen as u64), after),
     }
 }
