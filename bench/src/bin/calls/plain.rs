@@ -40,19 +40,19 @@ struct PointDay {
 /// The call on a point-day in plain numbers: 0, or the number of the refusal, which writes nothing.
 pub fn call(numbers: &mut Numbers, call: &Call) -> u8 {
     match run(numbers, call) {
-        Ok((day, value)) => {
-            day.write(numbers, value);
-            0
-        }
+        Ok(()) => 0,
         Err(refusal) => refusal,
     }
 }
 
-fn run(numbers: &Numbers, call: &Call) -> Result<(PointDay, i64), Refusal> {
+fn run(numbers: &mut Numbers, call: &Call) -> Result<(), Refusal> {
     if let Call::Fresh = call {
-        return Ok((PointDay::fresh(), 0));
+        PointDay::fresh().write(numbers, 0);
+        return Ok(());
     }
-    let mut day = PointDay::read(numbers).ok_or(2)?;
+    let Some(mut day) = PointDay::read(numbers) else {
+        return Err(2);
+    };
     if !day.is_taken() {
         return Err(2);
     }
@@ -66,7 +66,8 @@ fn run(numbers: &Numbers, call: &Call) -> Result<(PointDay, i64), Refusal> {
         Call::StartFinal => day.start_final()?,
         Call::StandIn(rows) => day.stand_in(rows)?,
     };
-    Ok((day, value))
+    day.write(numbers, value);
+    Ok(())
 }
 
 fn flag(number: i64) -> Option<bool> {
@@ -78,10 +79,11 @@ fn flag(number: i64) -> Option<bool> {
 }
 
 fn all_between(amounts: &[i64], low: i64, high: i64) -> bool {
-    // No early end: so the compiler makes vector code of it.
-    amounts
-        .iter()
-        .fold(true, |within, &x| within & (low <= x) & (x <= high))
+    amounts.iter().all(|x| (low..=high).contains(x))
+}
+
+fn all_zero(amounts: &[i64]) -> bool {
+    amounts.iter().all(|&x| x == 0)
 }
 
 impl PointDay {
@@ -155,7 +157,6 @@ impl PointDay {
 
     // ---- taken
 
-    /// Cells before sums, so that nothing overflows.
     fn is_taken(&self) -> bool {
         let n = self.count;
         n <= USERS
@@ -163,21 +164,40 @@ impl PointDay {
             && self.measurement.map_or(true, |(emission, downstream)| {
                 (0..=LIMIT).contains(&emission) && (0..=emission).contains(&downstream)
             })
-            && all_between(&self.consumption, 0, LIMIT)
-            && all_between(&self.losses, 0, LIMIT)
-            && all_between(&self.balance, -AMOUNT, AMOUNT)
-            && all_between(&self.revision, -AMOUNT, AMOUNT)
-            && all_between(&self.consumption[KINDS * n..], 0, 0)
-            && all_between(&self.losses[KINDS * n..], 0, 0)
-            && all_between(&self.balance[KINDS * n..], 0, 0)
-            && all_between(&self.revision[n..], 0, 0)
-            && self.offtake() <= LIMIT
-            && self.wholes_right()
-            && if self.allotted {
-                n > 0 && self.measurement.is_some()
-            } else {
-                all_between(&self.balance, 0, 0) && all_between(&self.revision, 0, 0)
+            && self.figures_right()
+            && all_zero(&self.consumption[KINDS * n..])
+            && all_zero(&self.losses[KINDS * n..])
+            && all_zero(&self.balance[KINDS * n..])
+            && all_zero(&self.revision[n..])
+            && (!self.allotted || n > 0 && self.measurement.is_some())
+    }
+
+    /// The users' figures and their sums are in range, user by user. A cell is tested before it is added, so that nothing overflows.
+    fn figures_right(&self) -> bool {
+        let most = if self.allotted { AMOUNT } else { 0 };
+        let (mut offtake, mut everything) = (0, 0);
+        for user in 0..self.count {
+            let mut whole = self.revision[user];
+            if !(-most..=most).contains(&whole) {
+                return false;
             }
+            for i in KINDS * user..KINDS * (user + 1) {
+                let (c, l, b) = (self.consumption[i], self.losses[i], self.balance[i]);
+                if !((0..=LIMIT).contains(&c)
+                    && (0..=LIMIT).contains(&l)
+                    && (-most..=most).contains(&b))
+                {
+                    return false;
+                }
+                offtake += c + l;
+                whole += c + l + b;
+            }
+            if whole.abs() > AMOUNT {
+                return false;
+            }
+            everything += whole;
+        }
+        offtake <= LIMIT && (0..=LIMIT).contains(&everything)
     }
 
     /// No number 0 or twice among the users, and none past the last.
@@ -204,11 +224,6 @@ impl PointDay {
             }
         }
         wholes
-    }
-
-    fn wholes_right(&self) -> bool {
-        let wholes = self.wholes();
-        all_between(&wholes, -AMOUNT, AMOUNT) && (0..=LIMIT).contains(&wholes.iter().sum())
     }
 
     fn any_too_large(&self) -> bool {
