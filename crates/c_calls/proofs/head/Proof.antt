@@ -1,6 +1,6 @@
 -- `c_calls::head` meets its contract. Assumes nothing.
 use mathlib.Core.Path.{_≡_, ap, _∙_}
-use mathlib.Core.List.{List, [], _∷_}
+use mathlib.Core.List.{_∷_, map}
 use mir.Syntax.{w64}
 use mir.Val.{SFits}
 use mir.Facts.{toZ-ofZ}
@@ -63,7 +63,8 @@ returns c =
     let e3 : c .before .before .before .before .before .to-signed3 .result ≡ signed-64 (bit (is-measured (s .args .measurement))) = c .before .before .before .before .before .to-signed3 .ensures ∙ ap signed-64 (c .before .before .before .before .before .before .flag-number2 .ensures ∙ ap bit (c .before .before .before .before .before .before .before .is-measured .ensures)) in
     let e4 : c .before .before .before .to-signed4 .result ≡ signed-64 (emission-number (s .args .measurement)) = c .before .before .before .to-signed4 .ensures ∙ ap signed-64 (c .before .before .before .before .emission-number .ensures) in
     let e5 : c .before .to-signed5 .result ≡ signed-64 (downstream-number (s .args .measurement)) = c .before .to-signed5 .ensures ∙ ap signed-64 (c .before .before .downstream-number .ensures) in
-    rw (toZ-ofZ (s .fits .value), toZ-ofZ h1, toZ-ofZ h2, toZ-ofZ h3, toZ-ofZ h4, toZ-ofZ h5, toZ-ofZ h6, e1, e2, e3, e4, e5, c .to-signed6 .ensures)
+    let t = map signed-64 (head (s .args .stage) (s .args .allotted) (s .args .measurement) (s .args .count)) in
+    rw (toZ-ofZ h1, toZ-ofZ h2, toZ-ofZ h3, toZ-ofZ h4, toZ-ofZ h5, toZ-ofZ h6, e1, e2, e3, e4, e5, c .to-signed6 .ensures) (ap (λ v. v ∷ t) (toZ-ofZ (s .fits .value)))
 
 pub head-spec : {M : Type 1} → statement M
 head-spec =
