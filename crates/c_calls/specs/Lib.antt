@@ -1,3 +1,4 @@
 pub mod Layout
 pub mod Plain
+pub mod Listing
 pub mod Cases

@@ -3,16 +3,19 @@ ghost use mathlib.Core.Bool.{Bool, true, false, not};
 ghost use mathlib.Core.List.{map, _∷_, _++_};
 ghost use Prim.Native.Nat.{ℕ, _+_, _*_, _≤_, _<_};
 ghost use lib.IntN.{pos, natAbs};
-ghost use lib.ListN.{length, take, drop, replicate};
+ghost use lib.ListN.{length, take, drop, set, replicate};
 ghost use Rattle.numbers.specs.Sums.{bit, atZ};
 ghost use Rattle.numbers.specs.Lists.{every};
 ghost use Rattle.wire.specs.Bytes.{signed-64};
 ghost use Rattle.point_day.specs.Limits.{USERS, CELLS, ROWS, TOLERANCE};
 ghost use Rattle.point_day.specs.Calls.{join, line, measure, allot, revise, start-final};
-ghost use Rattle.point_day.specs.Struct.{called};
+ghost use Rattle.point_day.specs.Struct.{read, called};
 ghost use Rattle.stand_in.specs.Openings.{rows};
+ghost use Rattle.inventory.specs.Inventory.{Afterwards};
 ghost use Rattle.c_calls.specs.Layout.{LENGTH, USERS-AT, LAST-NUMBER, part, up-to, measurement-laid-out, head-laid-out, is-laid-out, stage-of, measurement-of, day-in, stage-number, emission-number, downstream-number, head, numbers-of};
 ghost use Rattle.c_calls.specs.Plain.{plain, plain-call, plain-fresh, rows-laid-out, plain-stand-in};
+ghost use Rattle.c_calls.specs.Listing.{plain-inventory, answer-number, counted};
+use inventory::InventoryAnswer;
 use point_day::AllotAnswer;
 use point_day::CELLS;
 use point_day::JoinAnswer;
@@ -567,5 +570,32 @@ pub extern "C" fn seatpomelo_stand_in(
     match answer {
         StandInAnswer::Refused(number) => number,
         StandInAnswer::RowsLookedAt(seen) => write(day, wire::to_signed(seen as u64), after),
+    }
+}
+
+// An accepted call that changes no point-day: its value alone is written. The answer is 0.
+fn write_value(out: &mut [i64], value: i64) -> u8
+    requires { ⌜ 0 < length (now out) ⌝ }
+    ensures { λ r. ⌜ r ≡ 0 ⌝ }
+    ensures { λ r. ⌜ now (out .exit) ≡ set (now (out .entry)) 0 value ⌝ }
+{
+    out[0] = value;
+    0
+}
+
+// Inventory; its value is the count of rows, and the point-day stays.
+#[no_mangle]
+pub extern "C" fn seatpomelo_inventory(day: &mut [i64], out: &mut [i64]) -> u8
+    ensures { λ r. ⌜ r ≡ answer-number (plain-inventory (now (day .entry)) (now (out .entry))) ⌝ }
+    ensures { λ r. ⌜ now (day .exit) ≡ counted (plain-inventory (now (day .entry)) (now (out .entry))) (now (day .entry)) ⌝ }
+    ensures { λ r. ⌜ Afterwards (plain-inventory (now (day .entry)) (now (out .entry))) (read (day-in (now (day .entry)))) (now (out .entry)) (now (out .exit)) ⌝ }
+{
+    if !is_laid_out(day) {
+        return OUT_OF_RANGE;
+    }
+    let answer = inventory::inventory(day_in(day), out);
+    match answer {
+        InventoryAnswer::Refused(number) => number,
+        InventoryAnswer::Rows(count) => write_value(day, wire::to_signed(count as u64)),
     }
 }
