@@ -51,6 +51,7 @@ pub enum Call {
     Revise,
     StartFinal,
     StandIn(Box<Rows>),
+    Inventory,
 }
 
 /// As many distinct user numbers in a random order.

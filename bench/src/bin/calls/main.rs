@@ -7,11 +7,14 @@ mod proved;
 use std::hint::black_box;
 
 use bench::Random;
-use cases::{Call, Numbers, USERS};
+use cases::{Call, Numbers, CELLS, USERS};
 
 const CASES: usize = 16;
 const ROUNDS: usize = 2_000;
 const WALKS: usize = 400;
+
+/// Five numbers for each user and kind.
+const ROOM: usize = 5 * CELLS;
 
 /// A call, and the point-day in which it is made.
 #[derive(Clone)]
@@ -22,24 +25,31 @@ struct Case {
 
 fn main() {
     let mut random = Random::new(88_172_645_463_325_252);
-    for _ in 0..WALKS {
-        walk(&mut random);
-    }
+    compare(&mut random);
     println!("| call | proved, ns | Rust, ns | ratio |");
     println!("|---|---|---|---|");
-    for (name, make) in TABLE {
+    for (name, answer, make) in TABLE {
         let cases: Vec<Case> = (0..CASES).map(|_| make(&mut random)).collect();
         for case in &cases {
-            both(&mut case.day.clone(), &case.call);
+            assert_eq!(both(&mut case.day.clone(), &case.call), answer);
         }
+        let (mut ours, mut theirs) = ([0; ROOM], [0; ROOM]);
         let (proved, plain) = bench::best_of_states(
             ROUNDS,
             &cases,
             |case| {
-                black_box(proved::call(black_box(&mut case.day), &case.call));
+                black_box(proved::call(
+                    black_box(&mut case.day),
+                    &case.call,
+                    &mut ours,
+                ));
             },
             |case| {
-                black_box(plain::call(black_box(&mut case.day), &case.call));
+                black_box(plain::call(
+                    black_box(&mut case.day),
+                    &case.call,
+                    &mut theirs,
+                ));
             },
         );
         println!(
@@ -49,41 +59,43 @@ fn main() {
     }
 }
 
-const TABLE: [(&str, fn(&mut Random) -> Case); 11] = [
-    ("join", |random| {
+/// Each row: its name, the answer of its calls, and a case.
+const TABLE: [(&str, u8, fn(&mut Random) -> Case); 12] = [
+    ("join", 0, |random| {
         let (users, day) = day_of(USERS - 1, random);
-        let new = (1..)
-            .find(|user| !users.contains(user))
-            .expect("a number is left");
         Case {
             day,
-            call: Call::Join(new),
+            call: Call::Join(unused(&users)),
         }
     }),
-    ("line", |random| {
+    ("line", 0, |random| {
         let (users, day) = day_of(USERS, random);
         Case {
             day,
             call: Call::Line(cases::line(&users, random)),
         }
     }),
-    ("measure", |random| Case {
+    ("measure", 0, |random| Case {
         day: day_of(USERS, random).1,
         call: Call::Measure(900_000_000, 1_000),
     }),
-    ("allot", |random| Case {
+    ("allot", 0, |random| Case {
         day: day_of(USERS, random).1,
         call: Call::Allot,
     }),
-    ("revise, assigned", |random| revised(random, 1_000_000)),
-    ("revise, within tolerance", |random| revised(random, 100)),
-    ("start-final", |random| Case {
+    ("revise, assigned", 0, |random| revised(random, 1_000_000)),
+    ("revise, within tolerance", 0, |random| revised(random, 100)),
+    ("start-final", 0, |random| Case {
         day: allotted(random),
         call: Call::StartFinal,
     }),
-    ("stand-in, first row", |random| stood_in(0, random)),
-    ("stand-in, fifteenth row", |random| stood_in(14, random)),
-    ("measure refused: 1, by the stage", |random| {
+    ("stand-in, first row", 0, |random| stood_in(0, random)),
+    ("stand-in, fifteenth row", 0, |random| stood_in(14, random)),
+    ("inventory", 0, |random| Case {
+        day: allotted(random),
+        call: Call::Inventory,
+    }),
+    ("measure refused: 1, by the stage", 1, |random| {
         let mut day = allotted(random);
         both(&mut day, &Call::StartFinal);
         both(&mut day, &Call::Allot);
@@ -92,7 +104,7 @@ const TABLE: [(&str, fn(&mut Random) -> Case); 11] = [
             call: Call::Measure(1_000, 0),
         }
     }),
-    ("measure refused: 2, 65 users", |random| {
+    ("measure refused: 2, 65 users", 2, |random| {
         let mut day = day_of(USERS, random).1;
         day[6] = 65;
         Case {
@@ -141,51 +153,76 @@ fn stood_in(empty: usize, random: &mut Random) -> Case {
     }
 }
 
-/// The call, proved and plain: both give the same answer and the same numbers.
+/// The call, proved and plain: both give the same answer, the same numbers and the same rows.
 fn both(day: &mut Numbers, call: &Call) -> u8 {
+    both_with_room(day, call, ROOM)
+}
+
+/// The same, with so much room for rows.
+fn both_with_room(day: &mut Numbers, call: &Call, room: usize) -> u8 {
     let mut theirs = *day;
-    let answer = proved::call(day, call);
-    assert_eq!(answer, plain::call(&mut theirs, call));
+    let (mut our_rows, mut their_rows) = (vec![-1; room], vec![-1; room]);
+    let answer = proved::call(day, call, &mut our_rows);
+    assert_eq!(answer, plain::call(&mut theirs, call, &mut their_rows));
     assert_eq!(*day, theirs);
+    assert_eq!(our_rows, their_rows);
     answer
 }
 
+/// Both do the same in random calls; each refusal that a call can give is among the answers (12 never comes).
+fn compare(random: &mut Random) {
+    let mut answers = [false; 16];
+    for _ in 0..WALKS {
+        walk(random, &mut answers);
+    }
+    let (users, mut full) = day_of(USERS, random);
+    answers[usize::from(both(&mut full, &Call::Join(unused(&users))))] = true;
+    assert!((0..=11).chain([14]).all(|answer| answers[answer]));
+}
+
 /// Random calls from a fresh point-day, refused ones among them; now and then on numbers of which one is wrong.
-fn walk(random: &mut Random) {
+fn walk(random: &mut Random, answers: &mut [bool]) {
     let mut day = [0; 1095];
     both(&mut day, &Call::Fresh);
     let users = cases::user_numbers(8, random);
     for _ in 0..60 {
         let call = any_call(&users, random);
         if random.below(4) == 0 {
-            let mut wrong = day;
-            let place = if random.below(2) == 0 {
-                random.below(20)
-            } else {
-                random.below(1095)
-            };
-            let value = [
-                -1,
-                0,
-                1,
-                2,
-                3,
-                65,
-                65_536,
-                1_000_000_001,
-                2_000_000_001,
-                i64::MIN,
-                i64::MAX,
-            ];
-            wrong[place as usize] = value[random.below(11) as usize];
-            both(&mut wrong, &call);
+            both(&mut with_a_wrong_number(day, random), &call);
         }
-        both(&mut day, &call);
+        let room = 5 * random.below(40) as usize;
+        answers[usize::from(both_with_room(&mut day, &call, room))] = true;
     }
 }
 
+fn with_a_wrong_number(mut day: Numbers, random: &mut Random) -> Numbers {
+    const VALUES: [i64; 11] = [
+        -1,
+        0,
+        1,
+        2,
+        3,
+        65,
+        65_536,
+        1_000_000_001,
+        2_000_000_001,
+        i64::MIN,
+        i64::MAX,
+    ];
+    let among = if random.below(2) == 0 { 20 } else { 1095 };
+    day[random.below(among) as usize] = VALUES[random.below(11) as usize];
+    day
+}
+
+/// A number that no user has.
+fn unused(users: &[u16]) -> u16 {
+    (1..)
+        .find(|user| !users.contains(user))
+        .expect("a number is left")
+}
+
 fn any_call(users: &[u16], random: &mut Random) -> Call {
-    match random.below(24) {
+    match random.below(25) {
         0..=5 => Call::Join(users[random.below(8) as usize]),
         6..=12 => Call::Line(any_line(users, random)),
         13..=16 => Call::Measure(random.below(1_000_000_100), random.below(1_000_000)),
@@ -194,6 +231,7 @@ fn any_call(users: &[u16], random: &mut Random) -> Call {
         19..=20 => Call::Revise,
         21 => Call::StartFinal,
         22 => Call::Join(random.below(3) as u16),
+        23 => Call::Inventory,
         _ => Call::StandIn(Box::new(any_rows(random))),
     }
 }

@@ -38,14 +38,15 @@ struct PointDay {
 }
 
 /// The call on a point-day in plain numbers: 0, or the number of the refusal, which writes nothing.
-pub fn call(numbers: &mut Numbers, call: &Call) -> u8 {
-    match run(numbers, call) {
+/// The rows of an inventory go to `out`.
+pub fn call(numbers: &mut Numbers, call: &Call, out: &mut [i64]) -> u8 {
+    match run(numbers, call, out) {
         Ok(()) => 0,
         Err(refusal) => refusal,
     }
 }
 
-fn run(numbers: &mut Numbers, call: &Call) -> Result<(), Refusal> {
+fn run(numbers: &mut Numbers, call: &Call, out: &mut [i64]) -> Result<(), Refusal> {
     if let Call::Fresh = call {
         PointDay::fresh().write(numbers, 0);
         return Ok(());
@@ -65,6 +66,10 @@ fn run(numbers: &mut Numbers, call: &Call) -> Result<(), Refusal> {
         Call::Revise => day.revise()?,
         Call::StartFinal => day.start_final()?,
         Call::StandIn(rows) => day.stand_in(rows)?,
+        Call::Inventory => {
+            numbers[0] = day.inventory(out)?;
+            return Ok(());
+        }
     };
     day.write(numbers, value);
     Ok(())
@@ -413,6 +418,28 @@ impl PointDay {
         }
         self.allotted = true;
         Ok(row as i64 + 1)
+    }
+
+    fn inventory(&self, out: &mut [i64]) -> Result<i64, Refusal> {
+        if !self.allotted {
+            return Err(1);
+        }
+        let is_row = |&i: &usize| (self.consumption[i] | self.losses[i] | self.balance[i]) != 0;
+        let cells = KINDS * self.count;
+        let rows = (0..cells).filter(is_row).count();
+        if out.len() < 5 * rows {
+            return Err(14);
+        }
+        for (row, i) in out.chunks_exact_mut(5).zip((0..cells).filter(is_row)) {
+            row.copy_from_slice(&[
+                i64::from(self.users[i / KINDS]),
+                (i % KINDS) as i64 + 1,
+                self.consumption[i],
+                self.losses[i],
+                self.balance[i],
+            ]);
+        }
+        Ok(rows as i64)
     }
 }
 

@@ -29,10 +29,12 @@ extern "C" {
         amounts: *const i64,
         amount_count: usize,
     ) -> u8;
+    fn seatpomelo_inventory(day: *mut i64, numbers: usize, out: *mut i64, room: usize) -> u8;
 }
 
 /// The call on a point-day in plain numbers: 0, or document 01's number of the refusal. Any numbers will do: the call tests them itself.
-pub fn call(day: &mut Numbers, call: &Call) -> u8 {
+/// The rows of an inventory go to `out`.
+pub fn call(day: &mut Numbers, call: &Call, out: &mut [i64]) -> u8 {
     let (start, numbers) = (day.as_mut_ptr(), day.len());
     // SAFETY: each pointer comes with the length of its slice, and the slices live through the call.
     unsafe {
@@ -63,6 +65,7 @@ pub fn call(day: &mut Numbers, call: &Call) -> u8 {
                 rows.amounts.as_ptr(),
                 rows.amounts.len(),
             ),
+            Call::Inventory => seatpomelo_inventory(start, numbers, out.as_mut_ptr(), out.len()),
         }
     }
 }
