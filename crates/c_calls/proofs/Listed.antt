@@ -1,12 +1,12 @@
 -- The inventory of a point-day in plain numbers, outcome by outcome. Assumes nothing.
-use mathlib.Core.Path.{_≡_, refl, sym, ap, _∙_, subst}
+use mathlib.Core.Path.{_≡_, refl, ap, _∙_, subst}
 use mathlib.Core.Bool.{true, false}
 use mathlib.Core.List.{List}
 use Prim.Native.Nat.{ℕ}
 use lib.IntN.{ℤ}
 use Rattle.point_day.specs.Struct.{read}
 use Rattle.point_day.specs.declared.PointDay.{PointDay}
-use Rattle.inventory.specs.Inventory.{Answer, refused, inventory, Afterwards}
+use Rattle.inventory.specs.Inventory.{Answer, inventory, Afterwards}
 use Rattle.c_calls.specs.Layout.{is-laid-out, day-in}
 use Rattle.c_calls.specs.Listing.{plain-inventory, answer-number, counted}
 

@@ -6,8 +6,8 @@ use lib.ListN.{replicate, set}
 use Rattle.numbers.specs.Sums.{sum, table, total, totalZ, atZ}
 use Rattle.numbers.specs.Lists.{every, has, distinct, flat}
 use Rattle.numbers.specs.Nearest.{nearest}
-use Rattle.point_day.specs.Day.{fresh, whole}
-use Rattle.point_day.specs.Calls.{verdict, join, line, line-right, cell-step, cell-in, measure}
+use Rattle.point_day.specs.Day.{fresh}
+use Rattle.point_day.specs.Calls.{verdict, join, line, line-right, cell-step, cell-in}
 use Rattle.point_day.specs.Struct.{user-at, read, padded, laid, any, faults, taken, called}
 use Rattle.c_calls.specs.Layout.{LENGTH, up-to, measurement-laid-out, head-laid-out, is-laid-out, day-in, head, numbers-of}
 use Rattle.c_calls.specs.Plain.{Plain, plain, plain-call, plain-fresh}

@@ -1,7 +1,7 @@
 ghost use mathlib.Core.Path.{_≡_};
-ghost use mathlib.Core.Bool.{Bool, true, false, not};
+ghost use mathlib.Core.Bool.{true};
 ghost use mathlib.Core.List.{map, _∷_, _++_};
-ghost use Prim.Native.Nat.{ℕ, _+_, _*_, _≤_, _<_};
+ghost use Prim.Native.Nat.{_+_, _*_, _≤_, _<_};
 ghost use lib.IntN.{pos, natAbs};
 ghost use lib.ListN.{length, take, drop, set, replicate};
 ghost use Rattle.numbers.specs.Sums.{bit, atZ};
@@ -32,7 +32,9 @@ use point_day::StandInRows;
 use point_day::StartFinalAnswer;
 use point_day::USERS;
 
-// A point-day in plain numbers: so many, and where the arrays start.
+// A point-day in plain numbers, which the caller lends. Number 0 is the value of the last accepted call (losses added, rows looked at, R,
+// count of rows; else 0); 1 the stage (0 provisional, 1 final provisional, 2 final definitive); 2 and 3 whether allotted and measured (0, 1);
+// 4 and 5 emission and downstream emission, passed over if not measured; 6 the count of users. The arrays follow from these places on.
 const LENGTH: usize = 1095;
 
 const USERS_AT: usize = 7;

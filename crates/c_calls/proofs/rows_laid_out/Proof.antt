@@ -3,7 +3,6 @@ use lib.ListN.{length}
 use borrow.Author.Tests.{eq-eqb, ne-eqb}
 use Rattle.point_day.specs.Limits.{ROWS}
 use Rattle.c_calls.specs.Plain.{rows-laid-out}
-use borrow.Author.Needs.{needs}
 use Rattle.c_calls.proofs.rows_laid_out.Statement.{statement}
 use Rattle.c_calls.proofs.rows_laid_out.Tie as tie
 

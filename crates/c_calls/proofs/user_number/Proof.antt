@@ -1,6 +1,5 @@
 -- `c_calls::user_number` meets its contract. Assumes nothing.
 use native.Mathlib.Omega.{arith}
-use lib.IntN.{natAbs}
 use mir.Facts.{toZ-ofZ}
 use Rattle.c_calls.specs.Layout.{LAST-NUMBER}
 use Rattle.c_calls.proofs.Ranges.{up-to-le}
