@@ -35,6 +35,32 @@ pub fn best_of<Case>(
     (best_proved, best_plain)
 }
 
+/// The same of calls that change the state that they are made in: each round starts with all states as they were.
+pub fn best_of_states<State: Clone>(
+    rounds: usize,
+    states: &[State],
+    mut proved: impl FnMut(&mut State),
+    mut plain: impl FnMut(&mut State),
+) -> (f64, f64) {
+    let (mut best_proved, mut best_plain) = (f64::MAX, f64::MAX);
+    let mut changed = states.to_vec();
+    for _ in 0..rounds {
+        changed.clone_from_slice(states);
+        best_proved = best_proved.min(a_change(&mut changed, &mut proved));
+        changed.clone_from_slice(states);
+        best_plain = best_plain.min(a_change(&mut changed, &mut plain));
+    }
+    (best_proved, best_plain)
+}
+
+fn a_change<State>(states: &mut [State], call: &mut impl FnMut(&mut State)) -> f64 {
+    let start = Instant::now();
+    for state in states.iter_mut() {
+        call(state);
+    }
+    start.elapsed().as_nanos() as f64 / states.len() as f64
+}
+
 fn a_call<Case>(cases: &[Case], call: &mut impl FnMut(&Case)) -> f64 {
     let start = Instant::now();
     for case in cases {

@@ -1,0 +1,265 @@
+//! Times the proved calls on a point-day of 64 users beside plain Rust, on the same numbers in one run, and prints a table.
+
+mod cases;
+mod plain;
+mod proved;
+
+use std::hint::black_box;
+
+use bench::Random;
+use cases::{Call, Numbers, CELLS, USERS};
+
+const CASES: usize = 16;
+const ROUNDS: usize = 2_000;
+const WALKS: usize = 400;
+
+/// Five numbers for each user and kind.
+const ROOM: usize = 5 * CELLS;
+
+/// A call, and the point-day in which it is made.
+#[derive(Clone)]
+struct Case {
+    day: Numbers,
+    call: Call,
+}
+
+fn main() {
+    let mut random = Random::new(88_172_645_463_325_252);
+    compare(&mut random);
+    println!("| call | proved, ns | Rust, ns | ratio |");
+    println!("|---|---|---|---|");
+    for (name, answer, make) in TABLE {
+        let cases: Vec<Case> = (0..CASES).map(|_| make(&mut random)).collect();
+        for case in &cases {
+            assert_eq!(both(&mut case.day.clone(), &case.call), answer);
+        }
+        let (mut ours, mut theirs) = ([0; ROOM], [0; ROOM]);
+        let (proved, plain) = bench::best_of_states(
+            ROUNDS,
+            &cases,
+            |case| {
+                black_box(proved::call(
+                    black_box(&mut case.day),
+                    &case.call,
+                    &mut ours,
+                ));
+            },
+            |case| {
+                black_box(plain::call(
+                    black_box(&mut case.day),
+                    &case.call,
+                    &mut theirs,
+                ));
+            },
+        );
+        println!(
+            "| {name} | {proved:.0} | {plain:.0} | {:.2} |",
+            proved / plain
+        );
+    }
+}
+
+/// Each row: its name, the answer of its calls, and a case.
+const TABLE: [(&str, u8, fn(&mut Random) -> Case); 12] = [
+    ("join", 0, |random| {
+        let (users, day) = day_of(USERS - 1, random);
+        Case {
+            day,
+            call: Call::Join(unused(&users)),
+        }
+    }),
+    ("line", 0, |random| {
+        let (users, day) = day_of(USERS, random);
+        Case {
+            day,
+            call: Call::Line(cases::line(&users, random)),
+        }
+    }),
+    ("measure", 0, |random| Case {
+        day: day_of(USERS, random).1,
+        call: Call::Measure(900_000_000, 1_000),
+    }),
+    ("allot", 0, |random| Case {
+        day: day_of(USERS, random).1,
+        call: Call::Allot,
+    }),
+    ("revise, assigned", 0, |random| revised(random, 1_000_000)),
+    ("revise, within tolerance", 0, |random| revised(random, 100)),
+    ("start-final", 0, |random| Case {
+        day: allotted(random),
+        call: Call::StartFinal,
+    }),
+    ("stand-in, first row", 0, |random| stood_in(0, random)),
+    ("stand-in, fifteenth row", 0, |random| stood_in(14, random)),
+    ("inventory", 0, |random| Case {
+        day: allotted(random),
+        call: Call::Inventory,
+    }),
+    ("measure refused: 1, by the stage", 1, |random| {
+        let mut day = allotted(random);
+        both(&mut day, &Call::StartFinal);
+        both(&mut day, &Call::Allot);
+        Case {
+            day,
+            call: Call::Measure(1_000, 0),
+        }
+    }),
+    ("measure refused: 2, 65 users", 2, |random| {
+        let mut day = day_of(USERS, random).1;
+        day[6] = 65;
+        Case {
+            day,
+            call: Call::Measure(1_000, 0),
+        }
+    }),
+];
+
+/// The users and the numbers of a point-day with so many users, measured and entering.
+fn day_of(users: usize, random: &mut Random) -> (Vec<u16>, Numbers) {
+    let (users, calls) = cases::entering(users, random);
+    let mut day = [0; 1095];
+    for call in &calls {
+        assert_eq!(both(&mut day, call), 0);
+    }
+    (users, day)
+}
+
+fn allotted(random: &mut Random) -> Numbers {
+    let mut day = day_of(USERS, random).1;
+    assert_eq!(both(&mut day, &Call::Allot), 0);
+    day
+}
+
+/// A revise of an allotted point-day whose net has risen.
+fn revised(random: &mut Random, rise: i64) -> Case {
+    let mut day = allotted(random);
+    let emission = (day[4] + rise) as u64;
+    let measure = Call::Measure(emission, 0);
+    assert_eq!(both(&mut day, &measure), 0);
+    Case {
+        day,
+        call: Call::Revise,
+    }
+}
+
+/// A stand-in whose first rows are empty.
+fn stood_in(empty: usize, random: &mut Random) -> Case {
+    let mut day = [0; 1095];
+    both(&mut day, &Call::Fresh);
+    assert_eq!(both(&mut day, &Call::Measure(500_000_000, 0)), 0);
+    Case {
+        day,
+        call: Call::StandIn(Box::new(cases::rows(empty, random))),
+    }
+}
+
+/// The call, proved and plain: both give the same answer, the same numbers and the same rows.
+fn both(day: &mut Numbers, call: &Call) -> u8 {
+    both_with_room(day, call, ROOM)
+}
+
+/// The same, with so much room for rows.
+fn both_with_room(day: &mut Numbers, call: &Call, room: usize) -> u8 {
+    let mut theirs = *day;
+    let (mut our_rows, mut their_rows) = (vec![-1; room], vec![-1; room]);
+    let answer = proved::call(day, call, &mut our_rows);
+    assert_eq!(answer, plain::call(&mut theirs, call, &mut their_rows));
+    assert_eq!(*day, theirs);
+    assert_eq!(our_rows, their_rows);
+    answer
+}
+
+/// Both do the same in random calls; each refusal that a call can give is among the answers (12 never comes).
+fn compare(random: &mut Random) {
+    let mut answers = [false; 16];
+    for _ in 0..WALKS {
+        walk(random, &mut answers);
+    }
+    let (users, mut full) = day_of(USERS, random);
+    answers[usize::from(both(&mut full, &Call::Join(unused(&users))))] = true;
+    assert!((0..=11).chain([14]).all(|answer| answers[answer]));
+}
+
+/// Random calls from a fresh point-day, refused ones among them; now and then on numbers of which one is wrong.
+fn walk(random: &mut Random, answers: &mut [bool]) {
+    let mut day = [0; 1095];
+    both(&mut day, &Call::Fresh);
+    let users = cases::user_numbers(8, random);
+    for _ in 0..60 {
+        let call = any_call(&users, random);
+        if random.below(4) == 0 {
+            both(&mut with_a_wrong_number(day, random), &call);
+        }
+        let room = 5 * random.below(40) as usize;
+        answers[usize::from(both_with_room(&mut day, &call, room))] = true;
+    }
+}
+
+fn with_a_wrong_number(mut day: Numbers, random: &mut Random) -> Numbers {
+    const VALUES: [i64; 11] = [
+        -1,
+        0,
+        1,
+        2,
+        3,
+        65,
+        65_536,
+        1_000_000_001,
+        2_000_000_001,
+        i64::MIN,
+        i64::MAX,
+    ];
+    let among = if random.below(2) == 0 { 20 } else { 1095 };
+    day[random.below(among) as usize] = VALUES[random.below(11) as usize];
+    day
+}
+
+/// A number that no user has.
+fn unused(users: &[u16]) -> u16 {
+    (1..)
+        .find(|user| !users.contains(user))
+        .expect("a number is left")
+}
+
+fn any_call(users: &[u16], random: &mut Random) -> Call {
+    match random.below(25) {
+        0..=5 => Call::Join(users[random.below(8) as usize]),
+        6..=12 => Call::Line(any_line(users, random)),
+        13..=16 => Call::Measure(random.below(1_000_000_100), random.below(1_000_000)),
+        17 => Call::Measure(random.below(300), random.below(300)),
+        18 => Call::Allot,
+        19..=20 => Call::Revise,
+        21 => Call::StartFinal,
+        22 => Call::Join(random.below(3) as u16),
+        23 => Call::Inventory,
+        _ => Call::StandIn(Box::new(any_rows(random))),
+    }
+}
+
+fn any_line(users: &[u16], random: &mut Random) -> cases::Line {
+    let mut line = cases::line(users, random);
+    match random.below(12) {
+        0 => line.kind = random.below(8) as u8,
+        1 => line.coefficient = random.below(20_000),
+        2 => line.consumption = random.below(1_500_000_000),
+        3 => line.user = random.below(4) as u16,
+        _ => {}
+    }
+    line
+}
+
+/// Rows of up to three pairs, sometimes with a fault.
+fn any_rows(random: &mut Random) -> cases::Rows {
+    let mut rows = cases::rows(random.below(16) as usize, random);
+    for count in &mut rows.counts {
+        *count = (*count).min(random.below(4) as usize);
+    }
+    match random.below(6) {
+        0 => rows.counts[14] = 65,
+        1 => rows.amounts[random.below(960) as usize] = -5,
+        2 => rows.users[random.below(960) as usize] = 1,
+        3 => rows.amounts[random.below(960) as usize] = 2_000_000_001,
+        _ => {}
+    }
+    rows
+}

@@ -1,0 +1,5 @@
+pub mod Ranges
+pub mod Lists
+pub mod Outcomes
+pub mod Listed
+pub mod ReadBack

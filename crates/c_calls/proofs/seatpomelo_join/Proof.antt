@@ -1,0 +1,85 @@
+-- `c_calls::seatpomelo_join` meets its contract. Assumes nothing.
+use mathlib.Core.Path.{_≡_, sym, ap, ap₂, _∙_}
+use mathlib.Core.Bool.{true}
+use borrow.Author.Tests.{not-true, not-false}
+use Rattle.point_day.specs.Calls.{refused, done, join}
+use Rattle.point_day.specs.Answers.{join-answer}
+use Rattle.point_day.specs.Struct.{outcome, called}
+use Rattle.c_calls.specs.Layout.{is-laid-out}
+use Rattle.c_calls.specs.Plain.{plain}
+use Rattle.c_calls.proofs.Ranges.{laid-length, laid-users}
+use Rattle.c_calls.proofs.Outcomes.{not-laid-out, laid-out}
+use borrow.Author.Needs.{needs}
+use Rattle.c_calls.proofs.seatpomelo_join.Statement.{statement}
+use Rattle.c_calls.proofs.seatpomelo_join.Tie as tie
+
+is-laid-out-requires : tie.Need-is-laid-out-requires
+is-laid-out-requires c κs = search needs
+
+same-length : tie.Need-same-length
+same-length c = search needs
+
+returns : tie.Need-returns
+returns c =
+    let s = c .before .before .before in
+    not-laid-out (called (join (s .args .user))) (s .args .day .now) (sym (c .before .is-laid-out .ensures) ∙ not-true _ (c .if1 .taken))
+
+day-in-requires : tie.Need-day-in-requires
+day-in-requires c κs =
+    let xs = c .before .before .before .before .args .day .now in
+    let l : is-laid-out xs ≡ true = sym (c .before .before .is-laid-out .ensures) ∙ not-false _ (c .before .if1 .left) in
+    (laid-length xs l, laid-users xs l)
+
+join-requires : tie.Need-join-requires
+join-requires c κs = search needs
+
+enum-known-answer : tie.Need-enum-known-answer
+enum-known-answer c = search needs
+
+enum-told : tie.Need-enum-told
+enum-told c = search needs
+
+write-requires : tie.Need-write-requires
+write-requires c κs =
+    let xs = c .before .before .before .before .before .before .before .before .before .before .args .day .now in
+    laid-length xs (sym (c .before .before .before .before .before .before .before .before .is-laid-out .ensures) ∙ not-false _ (c .before .before .before .before .before .before .before .if1 .left))
+
+same-length-2 : tie.Need-same-length-2
+same-length-2 c = search needs
+
+returns-2 : tie.Need-returns-2
+returns-2 c =
+    let s = c .before .before .before .before .before .before .before .before .before .before in
+    let xs = s .args .day .now in
+    let m = c .before .before .before .before .join in
+    let a = c .before .answer .given in
+    laid-out (called (join (s .args .user))) xs (sym (c .before .before .before .before .before .before .before .before .is-laid-out .ensures) ∙ not-false _ (c .before .before .before .before .before .before .before .if1 .left)) (c .before .before .before .before .before .day-in .ensures) (refused (a .0 .0)) (m .result .day) (ap (λ x. outcome (join-answer x) (m .result .day)) (sym (a .1)) ∙ m .ensures)
+
+same-length-3 : tie.Need-same-length-3
+same-length-3 c = search needs
+
+returns-3 : tie.Need-returns-3
+returns-3 c =
+    let s = c .before .before .before .before .before .before .before .before .before .before .before .before in
+    let xs = s .args .day .now in
+    let m = c .before .before .before .before .before .before .join in
+    let a = c .before .before .before .enum-told .given in
+    ap₂ plain (c .before .write .ensures .0) (c .before .write .ensures .1)
+    ∙ laid-out (called (join (s .args .user))) xs (sym (c .before .before .before .before .before .before .before .before .before .before .is-laid-out .ensures) ∙ not-false _ (c .before .before .before .before .before .before .before .before .before .if1 .left)) (c .before .before .before .before .before .before .before .day-in .ensures) done (m .result .day) (ap (λ x. outcome (join-answer x) (m .result .day)) (sym (a .1)) ∙ m .ensures)
+
+pub seatpomelo-join-spec : {M : Type 1} → statement M
+seatpomelo-join-spec =
+    tie.close
+    (tie.spec
+    is-laid-out-requires
+    same-length
+    returns
+    day-in-requires
+    join-requires
+    enum-known-answer
+    enum-told
+    write-requires
+    same-length-2
+    returns-2
+    same-length-3
+    returns-3)

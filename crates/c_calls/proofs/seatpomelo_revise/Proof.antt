@@ -1,0 +1,115 @@
+-- `c_calls::seatpomelo_revise` meets its contract. Assumes nothing.
+use mathlib.Core.Path.{_≡_, sym, ap, ap₂, _∙_}
+use mathlib.Core.Bool.{true}
+use mir.Syntax.{w64}
+use mir.Val.{SFits}
+use mir.Facts.{toZ-ofZ}
+use borrow.Author.Tests.{not-true, not-false}
+use Rattle.point_day.specs.Limits.{TOLERANCE}
+use Rattle.point_day.specs.Calls.{refused, within-tolerance, revision-assigned, revise}
+use Rattle.point_day.specs.Answers.{revise-answer}
+use Rattle.point_day.specs.Struct.{outcome, called}
+use Rattle.c_calls.specs.Layout.{is-laid-out}
+use Rattle.c_calls.specs.Plain.{plain}
+use Rattle.c_calls.proofs.Ranges.{laid-length, laid-users}
+use Rattle.c_calls.proofs.Outcomes.{not-laid-out, laid-out}
+use borrow.Author.Needs.{needs}
+use Rattle.c_calls.proofs.seatpomelo_revise.Statement.{statement}
+use Rattle.c_calls.proofs.seatpomelo_revise.Tie as tie
+
+is-laid-out-requires : tie.Need-is-laid-out-requires
+is-laid-out-requires c κs = search needs
+
+same-length : tie.Need-same-length
+same-length c = search needs
+
+returns : tie.Need-returns
+returns c =
+    let s = c .before .before .before in
+    not-laid-out (called (revise TOLERANCE)) (s .args .day .now) (sym (c .before .is-laid-out .ensures) ∙ not-true _ (c .if1 .taken))
+
+day-in-requires : tie.Need-day-in-requires
+day-in-requires c κs =
+    let xs = c .before .before .before .before .args .day .now in
+    let l : is-laid-out xs ≡ true = sym (c .before .before .is-laid-out .ensures) ∙ not-false _ (c .before .if1 .left) in
+    (laid-length xs l, laid-users xs l)
+
+revise-requires : tie.Need-revise-requires
+revise-requires c κs = search needs
+
+enum-known-answer : tie.Need-enum-known-answer
+enum-known-answer c = search needs
+
+enum-known-answer-2 : tie.Need-enum-known-answer-2
+enum-known-answer-2 c = search needs
+
+write-requires : tie.Need-write-requires
+write-requires c κs =
+    let xs = c .before .before .before .before .before .before .before .before .before .before .before .args .day .now in
+    laid-length xs (sym (c .before .before .before .before .before .before .before .before .before .is-laid-out .ensures) ∙ not-false _ (c .before .before .before .before .before .before .before .before .if1 .left))
+
+enum-known-answer-3 : tie.Need-enum-known-answer-3
+enum-known-answer-3 c = search needs
+
+write-requires-2 : tie.Need-write-requires-2
+write-requires-2 c κs =
+    let xs = c .before .before .before .before .before .before .before .before .before .before .before .args .day .now in
+    laid-length xs (sym (c .before .before .before .before .before .before .before .before .before .is-laid-out .ensures) ∙ not-false _ (c .before .before .before .before .before .before .before .before .if1 .left))
+
+same-length-2 : tie.Need-same-length-2
+same-length-2 c = search needs
+
+returns-2 : tie.Need-returns-2
+returns-2 c =
+    let s = c .before .before .before .before .before .before .before .before .before .before in
+    let xs = s .args .day .now in
+    let m = c .before .before .before .before .revise in
+    let a = c .before .answer .given in
+    laid-out (called (revise TOLERANCE)) xs (sym (c .before .before .before .before .before .before .before .before .is-laid-out .ensures) ∙ not-false _ (c .before .before .before .before .before .before .before .if1 .left)) (c .before .before .before .before .before .day-in .ensures) (refused (a .0 .0)) (m .result .day) (ap (λ x. outcome (revise-answer x) (m .result .day)) (sym (a .1)) ∙ m .ensures)
+
+same-length-3 : tie.Need-same-length-3
+same-length-3 c = search needs
+
+returns-3 : tie.Need-returns-3
+returns-3 c =
+    let s = c .before .before .before .before .before .before .before .before .before .before .before .before .before in
+    let xs = s .args .day .now in
+    let m = c .before .before .before .before .before .before .before .revise in
+    let a = c .before .before .before .before .answer2 .given in
+    let h : SFits w64 (a .0 .0) = search needs in
+    ap₂ plain (c .before .write .ensures .0) (rw (toZ-ofZ h) at (c .before .write .ensures .1))
+    ∙ laid-out (called (revise TOLERANCE)) xs (sym (c .before .before .before .before .before .before .before .before .before .before .before .is-laid-out .ensures) ∙ not-false _ (c .before .before .before .before .before .before .before .before .before .before .if1 .left)) (c .before .before .before .before .before .before .before .before .day-in .ensures) (within-tolerance (a .0 .0)) (m .result .day) (ap (λ x. outcome (revise-answer x) (m .result .day)) (sym (a .1)) ∙ m .ensures)
+
+same-length-4 : tie.Need-same-length-4
+same-length-4 c = search needs
+
+returns-4 : tie.Need-returns-4
+returns-4 c =
+    let s = c .before .before .before .before .before .before .before .before .before .before .before .before .before in
+    let xs = s .args .day .now in
+    let m = c .before .before .before .before .before .before .before .revise in
+    let a = c .before .before .before .before .answer3 .given in
+    let h : SFits w64 (a .0 .0) = search needs in
+    ap₂ plain (c .before .write2 .ensures .0) (rw (toZ-ofZ h) at (c .before .write2 .ensures .1))
+    ∙ laid-out (called (revise TOLERANCE)) xs (sym (c .before .before .before .before .before .before .before .before .before .before .before .is-laid-out .ensures) ∙ not-false _ (c .before .before .before .before .before .before .before .before .before .before .if1 .left)) (c .before .before .before .before .before .before .before .before .day-in .ensures) (revision-assigned (a .0 .0)) (m .result .day) (ap (λ x. outcome (revise-answer x) (m .result .day)) (sym (a .1)) ∙ m .ensures)
+
+pub seatpomelo-revise-spec : {M : Type 1} → statement M
+seatpomelo-revise-spec =
+    tie.close
+    (tie.spec
+    is-laid-out-requires
+    same-length
+    returns
+    day-in-requires
+    revise-requires
+    enum-known-answer
+    enum-known-answer-2
+    write-requires
+    enum-known-answer-3
+    write-requires-2
+    same-length-2
+    returns-2
+    same-length-3
+    returns-3
+    same-length-4
+    returns-4)

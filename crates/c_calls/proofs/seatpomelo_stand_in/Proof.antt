@@ -1,0 +1,135 @@
+-- `c_calls::seatpomelo_stand_in` meets its contract. Assumes nothing.
+use mathlib.Core.Path.{_≡_, sym, ap, ap₂, _∙_}
+use mathlib.Core.Bool.{true}
+use mir.Syntax.{w64}
+use mir.Val.{SFits}
+use mir.Facts.{toZ-ofZ}
+use borrow.Author.Tests.{not-true, not-false}
+use Rattle.point_day.specs.Limits.{TOLERANCE}
+use Rattle.point_day.specs.Calls.{refused, rows-looked-at, stand-in}
+use Rattle.point_day.specs.Answers.{stand-in-answer}
+use Rattle.point_day.specs.Struct.{outcome, called, rows-of}
+use Rattle.stand_in.specs.Openings.{rows}
+use Rattle.c_calls.specs.Layout.{is-laid-out, numbers-of}
+use Rattle.c_calls.specs.Plain.{plain, rows-laid-out}
+use Rattle.c_calls.proofs.Ranges.{laid-length, laid-users}
+use Rattle.c_calls.proofs.Outcomes.{not-laid-out, laid-out, rows-lengths, rows-not-laid-out, with-rows}
+use borrow.Author.Needs.{needs}
+use Rattle.c_calls.proofs.seatpomelo_stand_in.Statement.{statement}
+use Rattle.c_calls.proofs.seatpomelo_stand_in.Tie as tie
+
+rows-laid-out-requires : tie.Need-rows-laid-out-requires
+rows-laid-out-requires c κs = search needs
+
+returns : tie.Need-returns
+returns c =
+    let s = c .before .before .before .before in
+    let xs = s .args .day .now in
+    let cs = s .args .counts .now in
+    let us = s .args .users .now in
+    let zs = s .args .amounts .now in
+    rows-not-laid-out cs us zs xs (sym (c .before .rows-laid-out .ensures) ∙ not-true _ (c .if1 .taken))
+
+is-laid-out-requires : tie.Need-is-laid-out-requires
+is-laid-out-requires c κs = search needs
+
+same-length : tie.Need-same-length
+same-length c = search needs
+
+returns-2 : tie.Need-returns-2
+returns-2 c =
+    let s = c .before .before .before .before .before .before .before in
+    let xs = s .args .day .now in
+    let cs = s .args .counts .now in
+    let us = s .args .users .now in
+    let zs = s .args .amounts .now in
+    not-laid-out (called (stand-in TOLERANCE (rows-of (rows cs us zs)))) xs (sym (c .before .is-laid-out .ensures) ∙ not-true _ (c .if2 .taken)) ∙ with-rows cs us zs xs (sym (c .before .before .before .before .rows-laid-out .ensures) ∙ not-false _ (c .before .before .before .if1 .left))
+
+rows-in-requires : tie.Need-rows-in-requires
+rows-in-requires c κs =
+    let s = c .before .before .before .before .before .before .before in
+    let cs = s .args .counts .now in
+    let us = s .args .users .now in
+    let zs = s .args .amounts .now in
+    rows-lengths cs us zs (sym (c .before .before .before .before .rows-laid-out .ensures) ∙ not-false _ (c .before .before .before .if1 .left))
+
+day-in-requires : tie.Need-day-in-requires
+day-in-requires c κs =
+    let xs = c .before .before .before .before .before .before .before .before .before .args .day .now in
+    let l : is-laid-out xs ≡ true = sym (c .before .before .before .is-laid-out .ensures) ∙ not-false _ (c .before .before .if2 .left) in
+    (laid-length xs l, laid-users xs l)
+
+stand-in-requires : tie.Need-stand-in-requires
+stand-in-requires c κs = search needs
+
+enum-known-answer : tie.Need-enum-known-answer
+enum-known-answer c = search needs
+
+enum-known-answer-2 : tie.Need-enum-known-answer-2
+enum-known-answer-2 c = search needs
+
+to-signed-requires : tie.Need-to-signed-requires
+to-signed-requires c κs = search needs
+
+write-requires : tie.Need-write-requires
+write-requires c κs =
+    let xs = c .before .before .before .before .before .before .before .before .before .before .before .before .before .before .before .before .before .args .day .now in
+    laid-length xs (sym (c .before .before .before .before .before .before .before .before .before .before .before .is-laid-out .ensures) ∙ not-false _ (c .before .before .before .before .before .before .before .before .before .before .if2 .left))
+
+same-length-2 : tie.Need-same-length-2
+same-length-2 c = search needs
+
+returns-3 : tie.Need-returns-3
+returns-3 c =
+    let s = c .before .before .before .before .before .before .before .before .before .before .before .before .before .before .before in
+    let xs = s .args .day .now in
+    let cs = s .args .counts .now in
+    let us = s .args .users .now in
+    let zs = s .args .amounts .now in
+    let m = c .before .before .before .before .stand-in in
+    let a = c .before .answer .given in
+    let q = c .before .before .before .before .before .before .before .rows-in .ensures in
+    let o = m .ensures ∙ ap (λ r. called (stand-in TOLERANCE (rows-of r)) (c .before .before .before .before .before .day-in .result)) q in
+    laid-out (called (stand-in TOLERANCE (rows-of (rows cs us zs)))) xs (sym (c .before .before .before .before .before .before .before .before .before .is-laid-out .ensures) ∙ not-false _ (c .before .before .before .before .before .before .before .before .if2 .left)) (c .before .before .before .before .before .day-in .ensures) (refused (a .0 .0)) (m .result .day) (ap (λ x. outcome (stand-in-answer x) (m .result .day)) (sym (a .1)) ∙ o)
+    ∙ with-rows cs us zs xs (sym (c .before .before .before .before .before .before .before .before .before .before .before .before .rows-laid-out .ensures) ∙ not-false _ (c .before .before .before .before .before .before .before .before .before .before .before .if1 .left))
+
+same-length-3 : tie.Need-same-length-3
+same-length-3 c = search needs
+
+returns-4 : tie.Need-returns-4
+returns-4 c =
+    let s = c .before .before .before .before .before .before .before .before .before .before .before .before .before .before .before .before .before .before .before in
+    let xs = s .args .day .now in
+    let cs = s .args .counts .now in
+    let us = s .args .users .now in
+    let zs = s .args .amounts .now in
+    let m = c .before .before .before .before .before .before .before .before .stand-in in
+    let a = c .before .before .before .before .before .answer2 .given in
+    let v = c .before .before .to-signed in
+    let h : SFits w64 (v .result) = search needs in
+    let q = c .before .before .before .before .before .before .before .before .before .before .before .rows-in .ensures in
+    let o = m .ensures ∙ ap (λ r. called (stand-in TOLERANCE (rows-of r)) (c .before .before .before .before .before .before .before .before .before .day-in .result)) q in
+    ap₂ plain (c .before .write .ensures .0) ((rw (toZ-ofZ h) at (c .before .write .ensures .1)) ∙ ap (λ z. numbers-of z (m .result .day)) (v .ensures))
+    ∙ laid-out (called (stand-in TOLERANCE (rows-of (rows cs us zs)))) xs (sym (c .before .before .before .before .before .before .before .before .before .before .before .before .before .is-laid-out .ensures) ∙ not-false _ (c .before .before .before .before .before .before .before .before .before .before .before .before .if2 .left)) (c .before .before .before .before .before .before .before .before .before .day-in .ensures) (rows-looked-at (a .0 .0)) (m .result .day) (ap (λ x. outcome (stand-in-answer x) (m .result .day)) (sym (a .1)) ∙ o)
+    ∙ with-rows cs us zs xs (sym (c .before .before .before .before .before .before .before .before .before .before .before .before .before .before .before .before .rows-laid-out .ensures) ∙ not-false _ (c .before .before .before .before .before .before .before .before .before .before .before .before .before .before .before .if1 .left))
+
+pub seatpomelo-stand-in-spec : {M : Type 1} → statement M
+seatpomelo-stand-in-spec =
+    tie.close
+    (tie.spec
+    rows-laid-out-requires
+    returns
+    is-laid-out-requires
+    same-length
+    returns-2
+    rows-in-requires
+    day-in-requires
+    stand-in-requires
+    enum-known-answer
+    enum-known-answer-2
+    to-signed-requires
+    write-requires
+    same-length-2
+    returns-3
+    same-length-3
+    returns-4)
