@@ -4,15 +4,15 @@ use mathlib.Core.List.{List, [], _++_, map, append-nil}
 use Prim.Native.Nat.{ℕ, _+_}
 use native.Mathlib.Omega.{arith}
 use lib.ListN.{length, getD, take, drop, drop-of-length-le, length-append}
-use lib.Seq.{take-length, take-at, drop-append-add, drop-drop}
+use lib.Seq.{take-at, drop-append-add, drop-drop}
 use Rattle.numbers.specs.Sums.{table}
 use Rattle.point_day.proofs.Back.{map-table}
-use Rattle.columns.proofs.Tables.{table-take}
+use Rattle.numbers.proofs.Sums.{table-all}
 
 -- f of each element, place by place
 pub table-map : {A B : Type 0} (f : A → B) (x : A) (xs : List A) → table (λ i. f (getD xs i x)) (length xs) ≡ map f xs
 table-map f x xs =
-    sym (map-table f (λ i. getD xs i x) (length xs)) ∙ ap (map f) (table-take x xs (length xs) (omega arith) ∙ take-length xs)
+    sym (map-table f (λ i. getD xs i x) (length xs)) ∙ ap (map f) (table-all x xs)
 
 -- a list put over the whole of a buffer
 pub put-all : {A : Type 0} (d xs : List A) → length xs ≡ length d → take 0 d ++ xs ++ drop (0 + length xs) d ≡ xs

@@ -11,7 +11,7 @@ use mir.Facts.{toZ-ofZ}
 use borrow.Author.Count.{below-more}
 use borrow.Author.Tests.{not-true, not-false}
 use Rattle.numbers.specs.Sums.{atZ}
-use Rattle.columns.proofs.Tables.{one-fails, none-fail}
+use Rattle.numbers.proofs.Places.{one-fails, at-every}
 use Rattle.c_calls.specs.Layout.{up-to}
 use borrow.Author.Needs.{needs}
 use Rattle.c_calls.proofs.all_up_to.Statement.{statement}
@@ -57,7 +57,7 @@ loop-again c =
 returns-2 : tie.Need-returns-2 Inv-loop μ-loop
 returns-2 c =
     let a = c .before .before .args in
-    sym (none-fail (up-to (a .most)) (pos 0) (a .xs .now) (λ k l. c .before .loop .inv .1 k (omega arith)))
+    sym (at-every (up-to (a .most)) (pos 0) (a .xs .now) (λ k l. c .before .loop .inv .1 k (omega arith)))
 
 pub all-up-to-spec : {M : Type 1} → statement M
 all-up-to-spec =

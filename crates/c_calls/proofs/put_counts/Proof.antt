@@ -5,7 +5,7 @@ use native.Mathlib.Omega.{arith}
 use lib.ListN.{length}
 use Rattle.numbers.specs.Sums.{at, table}
 use Rattle.numbers.proofs.Filled.{Filled, fill-none, fill-step, fill-all}
-use Rattle.columns.proofs.Tables.{table-all}
+use Rattle.numbers.proofs.Sums.{table-all}
 use borrow.Author.Needs.{needs}
 use Rattle.c_calls.proofs.put_counts.Statement.{statement}
 use Rattle.c_calls.proofs.put_counts.Tie as tie
@@ -47,7 +47,7 @@ returns : tie.Need-returns Inv-loop μ-loop
 returns c =
     let a = c .before .before .args in
     let e : c .before .loop .i ≡ length (a .xs .now) = omega arith in
-    fill-all (c .before .loop .inv .1) (omega arith) ∙ ap (table (at (a .xs .now))) e ∙ table-all (a .xs .now)
+    fill-all (c .before .loop .inv .1) (omega arith) ∙ ap (table (at (a .xs .now))) e ∙ table-all 0 (a .xs .now)
 
 pub put-counts-spec : {M : Type 1} → statement M
 put-counts-spec =

@@ -9,7 +9,7 @@ use mir.Val.{SFits}
 use mir.Facts.{toZ-ofZ}
 use Rattle.numbers.specs.Sums.{atZ, table}
 use Rattle.numbers.proofs.Filled.{Filled, fill-none, fill-step, fill-all}
-use Rattle.state.proofs.Cells.{every-at}
+use Rattle.numbers.proofs.Places.{every-at}
 use Rattle.c_calls.specs.Layout.{LAST-NUMBER, up-to}
 use Rattle.c_calls.proofs.Lists.{table-map}
 use borrow.Author.Needs.{needs}
