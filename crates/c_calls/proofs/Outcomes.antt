@@ -14,7 +14,7 @@ use Rattle.point_day.specs.Calls.{Answer, stand-in}
 use Rattle.point_day.specs.Struct.{Outcome, outcome, called, rows-of}
 use Rattle.point_day.specs.declared.PointDay.{PointDay}
 use Rattle.stand_in.specs.Openings.{rows}
-use Rattle.c_calls.specs.Layout.{is-laid-out, day-in}
+use Rattle.plain_day.specs.Layout.{is-laid-out, day-in}
 use Rattle.c_calls.specs.Plain.{plain, given, plain-call, rows-laid-out, plain-stand-in}
 
 module _ (call : PointDay → Outcome) (xs : List ℤ) where

@@ -22,7 +22,7 @@ use Rattle.point_day.specs.declared.Stage.{Stage}
 use Rattle.point_day.specs.declared.Stage.the-variants.{Provisional, FinalProvisional, FinalDefinitive}
 use Rattle.point_day.specs.declared.Measurement.{Measurement}
 use Rattle.point_day.specs.declared.Measurement.the-variants.{Unmeasured, Measured}
-use Rattle.c_calls.specs.Layout.{LENGTH, LAST-NUMBER, up-to, measurement-laid-out, head-laid-out, is-laid-out, stage-of, measurement-of, day-in, stage-number, emission-number, downstream-number, head, numbers-of}
+use Rattle.plain_day.specs.Layout.{LENGTH, LAST-NUMBER, up-to, measurement-laid-out, head-laid-out, is-laid-out, stage-of, measurement-of, day-in, stage-number, emission-number, downstream-number, head, numbers-of}
 use Rattle.c_calls.specs.Plain.{given, plain-call}
 
 -- user numbers have 16 bits, and the numbers before them are below 2^63

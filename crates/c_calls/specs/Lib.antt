@@ -1,4 +1,3 @@
-pub mod Layout
 pub mod Plain
 pub mod Listing
 pub mod Cases

@@ -6,7 +6,7 @@ use lib.ListN.{set}
 use Rattle.numbers.specs.Sums.{pick}
 use Rattle.wire.specs.Bytes.{signed-64}
 use Rattle.inventory.specs.Inventory.{Answer, refused, written, inventory}
-use Rattle.c_calls.specs.Layout.{is-laid-out, day-in}
+use Rattle.plain_day.specs.Layout.{is-laid-out, day-in}
 
 -- numbers that no point-day is read from are a list outside its stated range
 unfoldable pub plain-inventory : List ℤ → List ℤ → Answer

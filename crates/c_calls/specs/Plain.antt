@@ -14,7 +14,7 @@ use Rattle.point_day.specs.Day.{fresh}
 use Rattle.point_day.specs.Struct.{Outcome, called, laid, rows-of}
 use Rattle.point_day.specs.declared.PointDay.{PointDay}
 use Rattle.stand_in.specs.Openings.{rows}
-use Rattle.c_calls.specs.Layout.{LENGTH, is-laid-out, day-in, numbers-of}
+use Rattle.plain_day.specs.Layout.{LENGTH, is-laid-out, day-in, numbers-of}
 
 -- what a call gives back: 0 or the number of the refusal, and the numbers afterwards
 pub record Plain : Type 0 where

@@ -4,7 +4,7 @@ use Prim.Native.Nat.{_*_}
 use lib.IntN.{pos}
 use lib.ListN.{length, length-replicate}
 use Rattle.point_day.specs.Limits.{USERS, ROWS}
-use Rattle.c_calls.proofs.Lists.{put-all}
+use Rattle.plain_day.proofs.Lists.{put-all}
 use borrow.Author.Needs.{needs}
 use Rattle.c_calls.proofs.rows_in.Statement.{statement}
 use Rattle.c_calls.proofs.rows_in.Tie as tie

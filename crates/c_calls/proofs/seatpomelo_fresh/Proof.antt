@@ -3,7 +3,7 @@ use mathlib.Core.Path.{ap, ap₂, _∙_}
 use lib.IntN.{pos}
 use lib.ListN.{length}
 use borrow.Author.Tests.{eq-eqb, ne-eqb}
-use Rattle.c_calls.specs.Layout.{LENGTH, numbers-of}
+use Rattle.plain_day.specs.Layout.{LENGTH, numbers-of}
 use Rattle.c_calls.specs.Plain.{plain, plain-fresh}
 use borrow.Author.Needs.{needs}
 use Rattle.c_calls.proofs.seatpomelo_fresh.Statement.{statement}

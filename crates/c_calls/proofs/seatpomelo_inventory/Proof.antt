@@ -8,8 +8,8 @@ use mir.Val.{SFits}
 use mir.Facts.{toZ-ofZ}
 use borrow.Author.Tests.{not-true, not-false}
 use Rattle.inventory.specs.Inventory.{refused, written, answer-of}
-use Rattle.c_calls.specs.Layout.{is-laid-out}
-use Rattle.c_calls.proofs.Ranges.{laid-length, laid-users}
+use Rattle.plain_day.specs.Layout.{is-laid-out}
+use Rattle.plain_day.proofs.Ranges.{laid-length, laid-users}
 use Rattle.c_calls.proofs.Listed.{none-listed, as-listed}
 use borrow.Author.Needs.{needs}
 use Rattle.c_calls.proofs.seatpomelo_inventory.Statement.{statement}

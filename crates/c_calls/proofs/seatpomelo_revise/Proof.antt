@@ -9,9 +9,9 @@ use Rattle.point_day.specs.Limits.{TOLERANCE}
 use Rattle.point_day.specs.Calls.{refused, within-tolerance, revision-assigned, revise}
 use Rattle.point_day.specs.Answers.{revise-answer}
 use Rattle.point_day.specs.Struct.{outcome, called}
-use Rattle.c_calls.specs.Layout.{is-laid-out}
+use Rattle.plain_day.specs.Layout.{is-laid-out}
 use Rattle.c_calls.specs.Plain.{plain}
-use Rattle.c_calls.proofs.Ranges.{laid-length, laid-users}
+use Rattle.plain_day.proofs.Ranges.{laid-length, laid-users}
 use Rattle.c_calls.proofs.Outcomes.{not-laid-out, laid-out}
 use borrow.Author.Needs.{needs}
 use Rattle.c_calls.proofs.seatpomelo_revise.Statement.{statement}
