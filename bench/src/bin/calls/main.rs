@@ -59,8 +59,10 @@ fn main() {
     }
 }
 
-/// Each row: its name, the answer of its calls, and a case.
-const TABLE: [(&str, u8, fn(&mut Random) -> Case); 12] = [
+/// A row of the table: its name, the answer of its calls, and a case.
+type Row = (&'static str, u8, fn(&mut Random) -> Case);
+
+const TABLE: [Row; 12] = [
     ("join", 0, |random| {
         let (users, day) = day_of(USERS - 1, random);
         Case {

@@ -166,7 +166,7 @@ impl PointDay {
         let n = self.count;
         n <= USERS
             && self.numbers_right()
-            && self.measurement.map_or(true, |(emission, downstream)| {
+            && self.measurement.is_none_or(|(emission, downstream)| {
                 (0..=LIMIT).contains(&emission) && (0..=emission).contains(&downstream)
             })
             && self.figures_right()
