@@ -199,7 +199,16 @@ fn print_measurement(measurement: Measurement) {
     }
 }
 
-// Consumption, losses and balance of the kinds of a slot, and its revision.
+// Consumption, losses and balance of a user and kind.
+fn print_kind(day: PointDay, cell: usize)
+    requires { ⌜ cell < 320 ⌝ }
+{
+    output::amount(day.consumption[cell]);
+    output::amount(day.losses[cell]);
+    output::amount(day.balance[cell]);
+}
+
+// A user's number, kinds and revision.
 fn print_user(day: PointDay, slot: usize)
     requires { ⌜ slot < 64 ⌝ }
 {
@@ -207,9 +216,7 @@ fn print_user(day: PointDay, slot: usize)
     output::user(day.users[slot]);
     let mut k = 0;
     while k < 5 {
-        output::amount(day.consumption[5 * slot + k]);
-        output::amount(day.losses[5 * slot + k]);
-        output::amount(day.balance[5 * slot + k]);
+        print_kind(day, 5 * slot + k);
         k += 1;
     }
     output::amount(day.revision[slot]);
@@ -269,6 +276,29 @@ fn measurement_of(measured: u64, emission: u64, downstream: u64) -> Measurement 
     Measurement::Unmeasured
 }
 
+// The arrays of a point-day.
+fn take_arrays(s: &[u8], from: Cursor, day: PointDay) -> Outcome {
+    let mut users = day.users;
+    let mut consumption = day.consumption;
+    let mut losses = day.losses;
+    let mut balance = day.balance;
+    let mut revision = day.revision;
+    let after_users = input::take_users(s, from, &mut users);
+    let after_consumption = input::take_cells(s, after_users, &mut consumption);
+    let after_losses = input::take_cells(s, after_consumption, &mut losses);
+    let after_balance = input::take_cells(s, after_losses, &mut balance);
+    let next = input::take_revisions(s, after_balance, &mut revision);
+    let filled = PointDay {
+        users,
+        consumption,
+        losses,
+        balance,
+        revision,
+        ..day
+    };
+    Outcome { next, day: filled }
+}
+
 fn load(s: &[u8], from: Cursor, day: PointDay) -> Outcome {
     let tag = cursor::at_most(cursor::take_u8(s, from), 2);
     let allotted = cursor::at_most(cursor::take_u8(s, tag.next), 1);
@@ -276,19 +306,12 @@ fn load(s: &[u8], from: Cursor, day: PointDay) -> Outcome {
     let emission = cursor::take_u64(s, measured.next);
     let downstream = cursor::take_u64(s, emission.next);
     let count = cursor::take_u16(s, downstream.next);
-    let mut users = day.users;
-    let mut consumption = day.consumption;
-    let mut losses = day.losses;
-    let mut balance = day.balance;
-    let mut revision = day.revision;
-    let after_users = input::take_users(s, count.next, &mut users);
-    let after_consumption = input::take_cells(s, after_users, &mut consumption);
-    let after_losses = input::take_cells(s, after_consumption, &mut losses);
-    let after_balance = input::take_cells(s, after_losses, &mut balance);
-    let next = input::take_revisions(s, after_balance, &mut revision);
+    let arrays = take_arrays(s, count.next, day);
+    let next = arrays.next;
     if !next.ok {
         return Outcome { next, day };
     }
+    let filled = arrays.day;
     let stage = stage_of(tag.value);
     let measurement = measurement_of(measured.value, emission.value, downstream.value);
     output::text(b"load\n");
@@ -297,11 +320,7 @@ fn load(s: &[u8], from: Cursor, day: PointDay) -> Outcome {
         allotted: allotted.value == 1,
         measurement,
         count: count.value as usize,
-        users,
-        consumption,
-        losses,
-        balance,
-        revision,
+        ..filled
     };
     Outcome { next, day: loaded }
 }
