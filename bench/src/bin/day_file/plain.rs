@@ -152,7 +152,7 @@ impl Day {
         }
         let mut shares = [0; USERS];
         let keys = &self.users[..self.count];
-        split(
+        split::<USERS>(
             self.net - self.offtake as i64,
             &weights[..self.count],
             keys,
@@ -162,7 +162,7 @@ impl Day {
             if weights[slot] == 0 {
                 self.balance[slot][0] = shares[slot];
             } else {
-                split(
+                split::<KINDS>(
                     shares[slot],
                     &cells[slot],
                     &[1, 2, 3, 4, 5],
@@ -195,8 +195,8 @@ impl Day {
     }
 }
 
-/// Floors, then a sort by remainder and key.
-fn split(amount: i64, weights: &[i64], keys: &[u16], shares: &mut [i64]) {
+/// Floors, then a sort by remainder and key; N is the most parties.
+fn split<const N: usize>(amount: i64, weights: &[i64], keys: &[u16], shares: &mut [i64]) {
     let size = amount.unsigned_abs();
     let total: u64 = weights.iter().map(|&weight| weight as u64).sum();
     let whole = if total == 0 {
@@ -205,7 +205,7 @@ fn split(amount: i64, weights: &[i64], keys: &[u16], shares: &mut [i64]) {
         total
     };
     let mut left = size;
-    let mut order = [(Reverse(0), 0, 0); USERS];
+    let mut order = [(Reverse(0), 0, 0); N];
     for (i, &weight) in weights.iter().enumerate() {
         let product = size * if total == 0 { 1 } else { weight as u64 };
         let floor = product / whole;

@@ -49,7 +49,7 @@ returns-2 : tie.Need-returns-2 Inv-loop μ-loop
 returns-2 c = tells (c .before .before .before .before .before .before .before .before .args .file .now) (c .before .before .before .before .before .before .loop .end) (c .before .before .before .before .before .before .loop .i) (c .before .before .before .before .before .before .loop .inv .1) (not-whole (c .before .before .before .before .before .before .before .before .args .file .now) (c .before .before .before .before .before .before .loop .end) (c .before .before .before .before .before .before .loop .i) (c .before .before .before .before .read-u32 .result) (c .before .before .before .read-u322 .result) (omega arith) (c .before .before .before .before .read-u32 .ensures .0) (c .before .before .before .read-u322 .ensures .0) (sym (c .before .is-whole .ensures) ∙ not-true (c .before .is-whole .result) (c .if2 .taken)))
 
 add-end-2 : tie.Need-add-end-2 Inv-loop μ-loop
-add-end-2 c = search needs
+add-end-2 c = omega arith
 
 returns-3 : tie.Need-returns-3 Inv-loop μ-loop
 returns-3 c = tells (c .before .before .before .before .before .before .before .before .before .args .file .now) (c .before .before .before .before .before .before .before .loop .end) (c .before .before .before .before .before .before .before .loop .i) (c .before .before .before .before .before .before .before .loop .inv .1) (outside (c .before .before .before .before .before .before .before .before .before .args .file .now) (c .before .before .before .before .before .before .before .loop .end) (c .before .before .before .before .before .before .before .loop .i) (c .before .before .before .before .before .read-u32 .result) (c .before .before .before .before .read-u322 .result) (omega arith) (c .before .before .before .before .before .read-u32 .ensures .0) (c .before .before .before .before .read-u322 .ensures .0) (omega arith))
