@@ -9,11 +9,11 @@ use native.Mathlib.Nat.{mul-le-mul, mul-pos}
 use lib.Dec.{leb, eqb}
 use lib.ListN.{length}
 use borrow.Author.Tests.{leb-true, eq-eqb, ne-eqb, eqb-true, eqb-false}
-use Rattle.numbers.specs.Sums.{pick, total}
+use Rattle.numbers.specs.Sums.{total}
 use Rattle.numbers.specs.Lists.{both, every}
 use Rattle.numbers.proofs.Sums.{cases}
 use Rattle.numbers.proofs.Lists.{both-fst, both-snd}
-use Rattle.degree_days.specs.Temperature.{sum, divided, FEWEST-DAYS, MOST-DAYS, MOST-DEGREES, ADDED, is-degrees, correction, Corrects, mean, Sound, MonthMean, winters-mean, winter-right, winters-right}
+use Rattle.degree_days.specs.Temperature.{FEWEST-DAYS, MOST-DAYS, MOST-DEGREES, ADDED, is-degrees, correction, Corrects, mean, Sound, MonthMean, winters-mean, winter-right, winters-right}
 use Rattle.degree_days.specs.declared.Fraction.{Fraction}
 use Rattle.degree_days.proofs.Lists.{total-most}
 

@@ -1,5 +1,4 @@
 -- `supply::metering::known_if` meets its contract, by whether the value counts. Assumes nothing.
-use borrow.Author.Needs.{needs}
 use Rattle.supply.proofs.metering.known_if.Statement.{statement}
 use Rattle.supply.proofs.metering.known_if.Tie as tie
 
