@@ -1,3 +1,4 @@
+// Spreading a reading over the days of its period.
 ghost use mathlib.Core.Path.{_≡_};
 ghost use mathlib.Core.Bool.{true, false};
 ghost use mathlib.Core.List.{_++_};
