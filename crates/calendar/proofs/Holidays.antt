@@ -1,5 +1,5 @@
 -- A list of holidays, place by place: as stated or not, and a day among them or not. Assumes nothing.
-use mathlib.Core.Path.{_≡_, refl, sym, ap, _∙_}
+use mathlib.Core.Path.{_≡_, refl, sym, ap}
 use mathlib.Core.Bool.{Bool, true, false}
 use mathlib.Core.List.{List, [], _∷_}
 use mathlib.Core.Logic.{⊎-elim}
@@ -8,7 +8,7 @@ use native.Mathlib.Omega.{arith}
 use native.Mathlib.Numerals.{add-one}
 use native.Mathlib.Nat.{le-of-eq}
 use lib.Dec.{leb, ltb}
-use lib.ListN.{length, drop, drop-of-length-le}
+use lib.ListN.{length, drop}
 use lib.Seq.{drop-cons}
 use borrow.Author.Tests.{le-leb, lt-leb, leb-true, lt-ltb, le-ltb, ltb-true, ne-eqb}
 use Rattle.numbers.specs.Sums.{at}

@@ -51,7 +51,7 @@ pub fn keys_of(users: &[u16], keys: &mut [u64])
 }
 
 // The sizes of the amounts; later numbers stay.
-fn sizes_of(amounts: &[i64], sizes: &mut [u64])
+pub fn sizes_of(amounts: &[i64], sizes: &mut [u64])
     requires { ⌜ (length (now amounts) ≤ length (now sizes)) × ((i : ℕ) → Within ROOM (atZ (now amounts) i)) ⌝ }
     ensures { λ _. ⌜ now (sizes .exit) ≡ map natAbs (now (amounts .entry)) ++ drop (length (now (amounts .entry))) (now (sizes .entry)) ⌝ }
 {

@@ -1,13 +1,9 @@
--- Document 01, "Examples": P4 and P10; a case of two winters. Assumes nothing.
+-- Document 01, "Examples": P4 and P10. Assumes nothing.
 use mathlib.Core.Path.{_≡_, refl}
 use mathlib.Core.List.{[], _∷_, map}
 use lib.IntN.{pos}
-use lib.ListN.{replicate}
-use Rattle.numbers.specs.Nearest.{nearest}
-use Rattle.numbers.specs.Sums.{total}
 use Rattle.calendar.specs.Answers.{given, tested}
 use Rattle.degree_days.specs.Degrees.{temperatures-right, degree-days, degree-days-call}
-use Rattle.degree_days.specs.Temperature.{rounded, mean, winters-mean}
 use Rattle.degree_days.specs.Zones.{zone-of, zone-call}
 
 -- "(tmin, tmax) (150, 200) 0; (140, 300) 10; (100, 200) 50; (50, 150) 200; (0, 100) 400"
@@ -29,8 +25,3 @@ P10 = map zone-call (169 ∷ 170 ∷ 240 ∷ 380 ∷ 381 ∷ []) ≡ map given (
 pub p10 : P10
 unfolding zone-call zone-of tested
 p10 = refl
-
--- two winters count alike, though the second has more days: means of 0 and 1,000 average 500
-two-winters : rounded (winters-mean 2 (replicate 28 0) (replicate 31 1000)) ≡ 500
-unfolding winters-mean mean total nearest
-two-winters = refl

@@ -1,9 +1,10 @@
 -- Document 01, "Degree days": the coefficients C_temp1 and C_temp2, as exact fractions. Assumes nothing.
 use mathlib.Core.Bool.{Bool}
 use mathlib.Core.List.{List}
+use mathlib.Core.Path.{_≡_, refl}
 use Prim.Native.Nat.{ℕ, _+_, _*_, _≤_}
 use lib.Dec.{leb, eqb}
-use lib.ListN.{length}
+use lib.ListN.{length, replicate}
 use Rattle.numbers.specs.Nearest.{nearest}
 use Rattle.numbers.specs.Sums.{pick, total}
 use Rattle.numbers.specs.Lists.{both, every}
@@ -104,3 +105,8 @@ winter-right ds = both (both (leb FEWEST-DAYS (length ds)) (leb (length ds) MOST
 unfoldable pub winters-right : ℕ → List ℕ → List ℕ → Bool
 winters-right k first second =
     pick (eqb k 1) (winter-right first) (both (eqb k 2) (both (winter-right first) (winter-right second)))
+
+-- two winters count alike, though the second has more days: means of 0 and 1,000 average 500
+two-winters : rounded (winters-mean 2 (replicate 28 0) (replicate 31 1000)) ≡ 500
+unfolding winters-mean mean total nearest
+two-winters = refl

@@ -127,7 +127,7 @@ pub fn are_degrees(g: u32) -> bool
     g <= MOST_DEGREES
 }
 
-// Whether the degree days of each day are.
+// Whether each day's degree days are in their range.
 pub fn are_all_degrees(days: &[u32]) -> bool
     ensures { λ r. ⌜ r ≡ every is-degrees (now (days .entry)) ⌝ }
 {

@@ -11,13 +11,14 @@ use mir.Val.{SFits, toZ}
 use mir.Facts.{toZ-pos}
 use Rattle.numbers.specs.Sums.{atZ, total, Bounded}
 use Rattle.numbers.specs.Lists.{every, Distinct}
-use Rattle.numbers.specs.Amounts.{SAFE, Within}
+use Rattle.numbers.specs.Amounts.{Within}
 use Rattle.numbers.proofs.Sums.{length-table, getD-table}
 use Rattle.numbers.proofs.Amounts.{within-test, widen}
 use Rattle.proration.specs.Proration.{PARTIES, WEIGHT, AMOUNT as SPLIT, prorateZ}
 use Rattle.proration.proofs.Prorated.{take-long}
 use Rattle.point_day.specs.Limits.{AMOUNT}
 use Rattle.point_day.specs.Day.{no-more}
+use Rattle.columns.specs.Rooms.{ROOM}
 use Rattle.columns.proofs.Shared.{sizes-long, sizes-bounded}
 use Rattle.numbers.proofs.Lists.{both-fst, both-snd}
 use Rattle.reading.specs.Spread.{in-range, days, parts}
@@ -30,8 +31,8 @@ within-range [] e i = record { size = omega arith }
 within-range (w ∷ ws) e zero = within-test w (both-fst (no-more AMOUNT w) _ e)
 within-range (w ∷ ws) e (suc i) = within-range ws (both-snd (no-more AMOUNT w) _ e) i
 
-pub weight-safe : (ws : List ℤ) → every (no-more AMOUNT) ws ≡ true → (i : ℕ) → Within SAFE (atZ ws i)
-weight-safe ws e i = widen (within-range ws e i) (omega arith)
+pub weight-room : (ws : List ℤ) → every (no-more AMOUNT) ws ≡ true → (i : ℕ) → Within ROOM (atZ ws i)
+weight-room ws e i = widen (within-range ws e i) (omega arith)
 
 pub days-distinct : (n : ℕ) → Distinct (days n)
 days-distinct n i j l m e =

@@ -1,13 +1,10 @@
+// Spreading a reading over the days of its period.
 ghost use mathlib.Core.Path.{_≡_};
 ghost use mathlib.Core.Bool.{true, false};
-ghost use mathlib.Core.List.{_++_, map};
+ghost use mathlib.Core.List.{_++_};
 ghost use Prim.Native.Nat.{_≤_, _<_};
-ghost use lib.IntN.{natAbs};
 ghost use lib.ListN.{length, drop, replicate};
-ghost use Rattle.numbers.specs.Lists.{every};
 ghost use Rattle.proration.specs.Proration.{PARTIES};
-ghost use Rattle.point_day.specs.Limits.{LIMIT, AMOUNT};
-ghost use Rattle.point_day.specs.Day.{no-more};
 ghost use Rattle.reading.specs.Spread.{in-range, days, parts, outcome, spread, verdict-of, number-of};
 use point_day::LIMIT;
 use proration::PARTIES;
@@ -47,18 +44,6 @@ fn each_day(x: u64) -> [u64; PARTIES]
     [x; PARTIES]
 }
 
-// The sizes of the weights.
-fn write_sizes(weights: &[i64], sizes: &mut [u64])
-    requires { ⌜ (length (now sizes) ≡ length (now weights)) × (every (no-more AMOUNT) (now weights) ≡ true) ⌝ }
-    ensures { λ _. ⌜ now (sizes .exit) ≡ map natAbs (now (weights .entry)) ⌝ }
-{
-    let mut i = 0;
-    while i < weights.len() {
-        sizes[i] = numbers::size(weights[i]);
-        i += 1;
-    }
-}
-
 // The days' numbers, from 1.
 fn write_days(keys: &mut [u64])
     ensures { λ _. ⌜ now (keys .exit) ≡ days (length (now (keys .entry))) ⌝ }
@@ -75,7 +60,7 @@ fn prorate_days(reading: u64, weights: &[i64], sizes: &mut [u64], keys: &mut [u6
     requires { ⌜ (in-range reading (now weights) ≡ true) × (length (now sizes) ≡ length (now weights)) × (length (now keys) ≡ length (now weights)) × (length (now weights) ≤ length (now out)) ⌝ }
     ensures { λ _. ⌜ now (out .exit) ≡ parts reading (now (weights .entry)) ++ drop (length (now (weights .entry))) (now (out .entry)) ⌝ }
 {
-    write_sizes(weights, sizes);
+    columns::sizes_of(weights, sizes);
     write_days(keys);
     let whole = proration::weight_total(sizes);
     proration::prorate_signed(reading as i64, sizes, whole, keys, out);

@@ -14,6 +14,7 @@ use borrow.Author.Tests.{eq-eqb, ne-eqb, eqb-true, leb-true}
 use Rattle.numbers.specs.Sums.{pick, total}
 use Rattle.numbers.specs.Lists.{either}
 use Rattle.numbers.proofs.Sums.{cases, lt-or-ge}
+use Rattle.numbers.proofs.Lists.{true≢false}
 use Rattle.calendar.specs.Days.{day-type, same-type}
 use Rattle.calendar.specs.declared.DayType.{DayType}
 use Rattle.supply.specs.Amounts.{LIMIT}
@@ -224,6 +225,17 @@ module _ (hs : List ℕ) (d n : ℕ) where
           where
             seen-next : (a b : Bool) → 0 < matches + h .matches → either real (h .real) ≡ true
             seen-next a b l = ⊎-elim (λ q. rw (g .seen q)) (λ q. rw (small-hit .seen (omega arith)) (either-yes real)) (lt-or-ge 0 matches)
+
+        -- a real entry is remembered, and one that is not real adds nothing
+        pub going-real : h .real ≡ true → Going (sum + h .value) (matches + h .matches) true (i + 1)
+        going-real e = rw (e, either-yes real) at going-next
+
+        pub going-idle : h .real ≡ false → Going sum matches real (i + 1)
+        going-idle e =
+            let m : h .matches ≡ 0 = ⊎-elim (λ q. true≢false (sym (small-hit .seen q) ∙ e)) (λ q. omega arith) (lt-or-ge 0 (h .matches)) in
+            let a : matches + h .matches ≡ matches = omega arith in
+            let b : sum + h .value ≡ sum = omega (arith, small-hit .small) in
+            rw (b, a, e, either-false real) at going-next
 
       -- the third match ends it
       pub third : matches ≡ MATCHES → n ≤ d → record { sum = sum; matches = matches; looked = i; real = real } ≡ found-in hs d n (dated d es)

@@ -185,9 +185,11 @@ fn search(day: u32, holidays: &[u32], history: [Entry; ENTRIES], count: usize) -
         let reading = entry.reading;
         i += 1;
         let hit = look_at(reading, day - i as u32, holidays, wanted);
-        sum += hit.value;
-        matches += hit.matches;
-        real = real | hit.real;
+        if hit.real {
+            sum += hit.value;
+            matches += hit.matches;
+            real = true;
+        }
     }
 }
 

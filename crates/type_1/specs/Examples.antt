@@ -1,10 +1,8 @@
--- Document 01, "Examples": P7; further cases. Assumes nothing.
+-- Document 01, "Examples": P7. Assumes nothing.
 use mathlib.Core.Path.{_≡_, refl}
 use mathlib.Core.List.{[]}
-use mathlib.Core.Bool.{true}
 use Prim.Native.Nat.{ℕ}
 use lib.Count.{onesIn}
-use lib.ListN.{replicate}
 use Rattle.numbers.specs.Nearest.{nearest}
 use Rattle.numbers.specs.Sums.{sum}
 use Rattle.numbers.specs.Lists.{every, has, rising}
@@ -12,11 +10,9 @@ use Rattle.calendar.specs.Answers.{Answer, given, tested}
 use Rattle.calendar.specs.Days.{holidays-right, day-type, is-working}
 use Rattle.calendar.specs.Months.{month-days, length-of, month-from, month-of, working-mask, N-lab, N-res}
 use Rattle.calendar.specs.Calls.{calendar-right}
-use Rattle.degree_days.specs.Temperature.{_over_}
 use Rattle.supply.specs.Amounts.{limited}
-use Rattle.type_1.specs.Type1.{month-other, day-of, last-days-right, other-right, other-toll}
+use Rattle.type_1.specs.Type1.{month-other, day-of, other-right, other-toll}
 use Rattle.supply.specs.declared.Amount.the-variants.{Missing, Known}
-use Rattle.type_1.specs.declared.Basis.the-variants.{OfMonth}
 
 -- "other toll, June 2016, no holidays, 10,000 last year, C_c 10,000, C_f 850: N_lab 22, working day 386, others 188".
 -- Gas day 152 is Wednesday 1 June 2016, 155 a Saturday, 156 a Sunday
@@ -32,17 +28,3 @@ pub record P7 : Type 0 where
 pub p7 : P7
 unfolding other-toll other-right month-other day-of limited tested calendar-right holidays-right rising every month-of month-from length-of month-days working-mask N-lab N-res onesIn sum is-working day-type has nearest
 p7 = record { working-days = refl; working-day = refl; saturday = refl; sunday = refl }
-
--- rounded once: 44.6 kWh over 30 days are 1.49 kWh a day. (45 over 30 would be 1.5, and so 2.)
-rounded-once : day-of (OfMonth (446 over 10)) 1 30 ≡ given 1
-unfolding day-of limited tested nearest
-rounded-once = refl
-
--- "the days of last year's month": 1 February 2016 asks for the 28 days of February 2015, 1 February 2017 for the 29 of 2016
-february-2016 : last-days-right 31 (replicate 28 0) ≡ true
-unfolding last-days-right month-of month-from length-of month-days has every
-february-2016 = refl
-
-february-2017 : last-days-right 397 (replicate 29 0) ≡ true
-unfolding last-days-right month-of month-from length-of month-days has every
-february-2017 = refl

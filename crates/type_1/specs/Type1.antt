@@ -1,14 +1,16 @@
 -- Document 01, "Type 1". Assumes nothing.
-use mathlib.Core.Bool.{Bool, not}
+use mathlib.Core.Bool.{Bool, true, not}
 use mathlib.Core.List.{List, [], _∷_}
+use mathlib.Core.Path.{_≡_, refl}
 use Prim.Native.Nat.{ℕ, _-_, _*_, _≤_}
 use lib.Dec.{leb, eqb}
-use lib.ListN.{length}
+use lib.ListN.{length, replicate}
+use Rattle.numbers.specs.Nearest.{nearest}
 use Rattle.numbers.specs.Sums.{pick}
-use Rattle.numbers.specs.Lists.{both, every}
-use Rattle.calendar.specs.Answers.{Answer, refused, _when_, tested, OUT-OF-RANGE, NO-BASIS}
+use Rattle.numbers.specs.Lists.{both, every, has}
+use Rattle.calendar.specs.Answers.{Answer, refused, given, _when_, tested, OUT-OF-RANGE, NO-BASIS}
 use Rattle.calendar.specs.Days.{is-gas-day, is-working}
-use Rattle.calendar.specs.Months.{month-of, last-year-days, N-lab, N-res}
+use Rattle.calendar.specs.Months.{month-days, length-of, month-from, month-of, last-year-days, N-lab, N-res}
 use Rattle.calendar.specs.Calls.{calendar-right}
 use Rattle.calendar.specs.declared.Month.{Month}
 use Rattle.degree_days.specs.Temperature.{_over_, times, divided, rounded, MOST-DAYS, is-degrees, C-temp1}
@@ -92,3 +94,19 @@ other-toll d hs last-year cc last-month q fc cf =
     let m = month-of d in
     tested ((OUT-OF-RANGE when not (other-right d hs last-year cc last-month q fc cf)) ∷ [])
     (day-of (month-other last-year cc last-month q fc (m .days)) (part-of (is-working hs d) cf) (THOUSAND * sharing (is-working hs d) hs m))
+
+-- ---- cases
+
+-- rounded once: 44.6 kWh over 30 days are 1.49 kWh a day. (45 over 30 would be 1.5, and so 2.)
+rounded-once : day-of (OfMonth (446 over 10)) 1 30 ≡ given 1
+unfolding day-of limited tested nearest
+rounded-once = refl
+
+-- "the days of last year's month": 1 February 2016 asks for the 28 days of February 2015, 1 February 2017 for the 29 of 2016
+february-2016 : last-days-right 31 (replicate 28 0) ≡ true
+unfolding last-days-right month-of month-from length-of month-days has every
+february-2016 = refl
+
+february-2017 : last-days-right 397 (replicate 29 0) ≡ true
+unfolding last-days-right month-of month-from length-of month-days has every
+february-2017 = refl

@@ -1,15 +1,25 @@
 -- `reading::prorate_days` meets its contract. Assumes nothing.
-use lib.ListN.{length}
-use Rattle.reading.proofs.Periods.{reading-fits, total-asks, split-asks, parts-are}
+use mathlib.Core.Path.{_≡_}
+use mathlib.Core.List.{List, map, _++_}
+use Prim.Native.Nat.{ℕ}
+use native.Mathlib.Omega.{arith}
+use lib.IntN.{natAbs}
+use lib.ListN.{length, drop}
+use Rattle.columns.proofs.Shared.{fitted}
+use Rattle.reading.proofs.Periods.{weight-room, reading-fits, total-asks, split-asks, parts-are}
 use Rattle.reading.proofs.Outcomes.{in-range-facts}
 use borrow.Author.Needs.{needs}
 use Rattle.reading.proofs.prorate_days.Statement.{statement}
 use Rattle.reading.proofs.prorate_days.Tie as tie
 
-write-sizes-requires : tie.Need-write-sizes-requires
-write-sizes-requires c κs =
+-- the sizes take up all of their scratch
+sizes-are : (s : tie.Start) {e : List ℕ} → e ≡ map natAbs (s .args .weights .now) ++ drop (length (s .args .weights .now)) (s .args .sizes .now) → e ≡ map natAbs (s .args .weights .now)
+sizes-are s h = fitted (length (s .args .weights .now)) (map natAbs (s .args .weights .now)) (s .args .sizes .now) h (s .pre .1)
+
+sizes-of-requires : tie.Need-sizes-of-requires
+sizes-of-requires c κs =
     let s = c .before .before .before in
-    (s .pre .1, in-range-facts (s .args .reading) (s .args .weights .now) (s .pre .0) .weights)
+    (omega (arith, s .pre .1), weight-room (s .args .weights .now) (in-range-facts (s .args .reading) (s .args .weights .now) (s .pre .0) .weights))
 
 write-days-requires : tie.Need-write-days-requires
 write-days-requires c κs = search needs
@@ -17,7 +27,7 @@ write-days-requires c κs = search needs
 weight-total-requires : tie.Need-weight-total-requires
 weight-total-requires c κs =
     let s = c .before .before .before .before .before .before .before .before .before .before .before in
-    total-asks (s .args .reading) (s .args .weights .now) (s .pre .0) (c .before .before .before .before .before .before .before .write-sizes .ensures)
+    total-asks (s .args .reading) (s .args .weights .now) (s .pre .0) (sizes-are s (c .before .before .before .before .before .before .before .sizes-of .ensures))
 
 cast-prorate-signed : tie.Need-cast-prorate-signed
 cast-prorate-signed c =
@@ -28,7 +38,7 @@ prorate-signed-requires : tie.Need-prorate-signed-requires
 prorate-signed-requires c κs =
     let s = c .before .before .before .before .before .before .before .before .before .before .before .before .before .before .before in
     let a = s .args in
-    split-asks (a .reading) (a .weights .now) (s .pre .0) (c .before .before .before .before .before .before .before .before .before .before .before .write-sizes .ensures) (length (a .keys .now)) (s .pre .2) (c .before .before .before .before .before .before .before .write-days .ensures) (a .out .now)
+    split-asks (a .reading) (a .weights .now) (s .pre .0) (sizes-are s (c .before .before .before .before .before .before .before .before .before .before .before .sizes-of .ensures)) (length (a .keys .now)) (s .pre .2) (c .before .before .before .before .before .before .before .write-days .ensures) (a .out .now)
     (c .before .before .before .weight-total .ensures) (s .pre .3)
 
 same-length : tie.Need-same-length
@@ -44,14 +54,14 @@ returns : tie.Need-returns
 returns c =
     let s = c .before .before .before .before .before .before .before .before .before .before .before .before .before .before .before .before .before in
     let a = s .args in
-    parts-are (a .reading) (a .weights .now) (s .pre .0) (c .before .before .before .before .before .before .before .before .before .before .before .before .before .write-sizes .ensures) (length (a .keys .now)) (s .pre .2) (c .before .before .before .before .before .before .before .before .before .write-days .ensures) (a .out .now)
+    parts-are (a .reading) (a .weights .now) (s .pre .0) (sizes-are s (c .before .before .before .before .before .before .before .before .before .before .before .before .before .sizes-of .ensures)) (length (a .keys .now)) (s .pre .2) (c .before .before .before .before .before .before .before .before .before .write-days .ensures) (a .out .now)
     (c .before .prorate-signed .ensures)
 
 pub prorate-days-spec : {M : Type 1} → statement M
 prorate-days-spec =
     tie.close
     (tie.spec
-    write-sizes-requires
+    sizes-of-requires
     write-days-requires
     weight-total-requires
     cast-prorate-signed

@@ -1,7 +1,7 @@
 -- `telemetered::search` meets its contract. What is found before place `i`, and what the rest of the history adds, make what there is to find. Assumes nothing.
-use mathlib.Core.Path.{ap₂, _≡_, refl, sym, _∙_}
+use mathlib.Core.Path.{ap₂, _≡_, sym, _∙_}
 use mathlib.Core.List.{List}
-use mathlib.Core.Bool.{_||_, Bool, true, false}
+use mathlib.Core.Bool.{true}
 use Prim.Native.Nat.{ℕ, _+_, _-_, _*_, _≤_, _<_}
 use native.Mathlib.Numerals.{lt-of-le-of-ne}
 use native.Mathlib.Omega.{arith}
@@ -11,11 +11,10 @@ use borrow.Author.Needs.{needs}
 use Rattle.numbers.proofs.Places.{every-at}
 use Rattle.supply.specs.Amounts.{LIMIT}
 use Rattle.telemetered.specs.History.{hit-of, ENTRIES, entry-right, MATCHES}
-use Rattle.numbers.specs.Lists.{either}
 use Rattle.telemetered.specs.declared.Reading.the-variants.{Nothing}
 use Rattle.telemetered.specs.declared.Entry.{Entry}
 use Rattle.calendar.specs.Days.{day-type}
-use Rattle.telemetered.proofs.Searching.{Going, going-start, going-next, next-small, next-few, third, at-end}
+use Rattle.telemetered.proofs.Searching.{Going, going-start, going-real, going-idle, next-small, next-few, third, at-end}
 use Rattle.telemetered.proofs.search.Statement.{statement}
 use Rattle.telemetered.proofs.search.Tie as tie
 
@@ -25,10 +24,6 @@ none = record { reading = Nothing }
 -- the history that counts has as many entries as are counted
 long : (n : ℕ) (xs : List Entry) → length xs ≡ 400 → n ≤ ENTRIES → length (take n xs) ≡ n
 long n xs e l = length-take-le n xs (omega arith)
-
-or-is : (a b : Bool) → a || b ≡ either a b
-or-is true b = refl
-or-is false b = refl
 
 abbrev Inv-loop : tie.InvT-loop
 Inv-loop day holidays count history wanted sum₀ matches₀ real₀ i₀ sum matches real i = Going holidays day count (take count history) sum matches real i × (wanted ≡ day-type holidays day)
@@ -99,18 +94,26 @@ module _ (c : tie.After-look-at Inv-loop μ-loop) where
   sum-fits = omega (arith, next-small hs _ _ es going (c .before .before .before .if1 .left) left none right hit es-long, matches-fit)
 
 add-sum : tie.Need-add-sum Inv-loop μ-loop
-add-sum c = omega (arith, sum-fits (c .before))
+add-sum c = omega (arith, sum-fits (c .before .before))
 
 add-matches : tie.Need-add-matches Inv-loop μ-loop
-add-matches c = omega (arith, matches-fit (c .before .before))
+add-matches c = omega (arith, matches-fit (c .before .before .before))
 
 loop-less : tie.Need-loop-less Inv-loop μ-loop
-loop-less c = omega (arith, c .before .before .before .before .before .before .before .loop .inv .0 .inside)
+loop-less c = omega (arith, going (c .before .before .before) .inside)
 
 loop-again : tie.Need-loop-again Inv-loop μ-loop
 loop-again c =
     let a = c .before .before .before in
-    (rw (or-is (c .before .before .before .before .before .before .before .loop .real) (a .look-at .result .real)) (going-next (hs a) _ _ (es a) (going a) (c .before .before .before .before .before .before .if1 .left) (left a) none (right a) (hit a) (es-long a)), c .before .before .before .before .before .before .before .loop .inv .1)
+    (going-real (hs a) _ _ (es a) (going a) (a .before .before .before .if1 .left) (left a) none (right a) (hit a) (es-long a) (c .before .before .if3 .taken), a .before .before .before .before .loop .inv .1)
+
+loop-less-2 : tie.Need-loop-less-2 Inv-loop μ-loop
+loop-less-2 c = omega (arith, going (c .before) .inside)
+
+loop-again-2 : tie.Need-loop-again-2 Inv-loop μ-loop
+loop-again-2 c =
+    let a = c .before in
+    (going-idle (hs a) _ _ (es a) (going a) (a .before .before .before .if1 .left) (left a) none (right a) (hit a) (es-long a) (c .if3 .left), a .before .before .before .before .loop .inv .1)
 
 returns : tie.Need-returns Inv-loop μ-loop
 returns c =
@@ -141,5 +144,7 @@ search-spec =
     add-matches
     loop-less
     loop-again
+    loop-less-2
+    loop-again-2
     returns
     returns-2)
