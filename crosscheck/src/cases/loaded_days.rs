@@ -10,8 +10,11 @@ use crate::point_day::{Measurement, PointDay, Slot, Stage};
 const LEAST: i128 = i64::MIN as i128;
 const GREATEST: i128 = i64::MAX as i128;
 
-pub fn all(out: &mut Recorder) {
-    record_untaken(untaken(), out);
+/// How many of the reasons fit into an input that has all vectors.
+const FEW: usize = 2;
+
+/// Taken ones.
+pub fn taken(out: &mut Recorder) {
     revised_out_of_range(out);
     negative_whole_amounts(out);
     cells_at_their_bounds(out);
@@ -20,9 +23,14 @@ pub fn all(out: &mut Recorder) {
     full_and_unsorted(out);
 }
 
-/// The reasons of `replay-all` in the vectors, for an input without it.
-pub fn reasons_of_vectors(out: &mut Recorder) {
-    record_untaken(untaken_in_vectors(), out);
+/// One for every reason.
+pub fn all_untaken(out: &mut Recorder) {
+    record_untaken([untaken(), untaken_in_vectors()].concat(), out);
+}
+
+/// A few, for an input with the vectors: `replay-all` has some of the reasons.
+pub fn some_untaken(out: &mut Recorder) {
+    record_untaken(untaken().into_iter().take(FEW).collect(), out);
 }
 
 fn record_untaken(list: Vec<Untaken>, out: &mut Recorder) {

@@ -35,12 +35,19 @@ pub fn stdin(operations: Operations, vectors: &Path) -> Result<Vec<u8>, String> 
     let mut own = Recorder::new(all);
     hand_lists::all(&mut own);
     random_lists(&mut own);
-    loaded_days::all(&mut own);
-    if !all {
-        loaded_days::reasons_of_vectors(&mut own);
+    loaded_days::taken(&mut own);
+    if all {
+        loaded_days::some_untaken(&mut own);
+    } else {
+        loaded_days::all_untaken(&mut own);
     }
     inventories(&mut own);
     day_files(&mut own);
+    if all {
+        for bytes in vector_files::day_files(vectors)? {
+            own.day_file(bytes);
+        }
+    }
     let mut bytes = own.bytes();
 
     let mut files = vec!["replay-basic.in"];
