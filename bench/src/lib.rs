@@ -19,6 +19,43 @@ impl Random {
     }
 }
 
+/// The weights of a split.
+#[derive(Clone, Copy)]
+pub enum Weights {
+    Random,
+    HalfEqual,
+    Equal,
+    Zero,
+}
+
+impl Weights {
+    pub const ALL: [Weights; 4] = [
+        Weights::Random,
+        Weights::HalfEqual,
+        Weights::Equal,
+        Weights::Zero,
+    ];
+
+    pub fn name(self) -> &'static str {
+        match self {
+            Weights::Random => "random",
+            Weights::HalfEqual => "half of them equal",
+            Weights::Equal => "all equal",
+            Weights::Zero => "all zero",
+        }
+    }
+
+    /// The weight of a place; a random one is below the bound.
+    pub fn draw(self, place: usize, bound: u64, random: &mut Random) -> u64 {
+        match self {
+            Weights::Random => random.below(bound),
+            Weights::HalfEqual if place % 2 == 1 => random.below(bound),
+            Weights::HalfEqual | Weights::Equal => 123_456_789,
+            Weights::Zero => 0,
+        }
+    }
+}
+
 /// Nanoseconds a call, proved and plain: the best of many short rounds, in turn, so that other work on the machine counts for little.
 /// A round makes one call for each case.
 pub fn best_of<Case>(

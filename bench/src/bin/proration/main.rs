@@ -6,8 +6,8 @@ mod proved;
 
 use std::hint::black_box;
 
-use bench::Random;
-use cases::{case, Case, Weights};
+use bench::{Random, Weights};
+use cases::{case, Case};
 
 const PARTIES: [usize; 3] = [5, 64, 366];
 const CASES: usize = 256;

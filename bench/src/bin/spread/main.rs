@@ -6,8 +6,8 @@ mod proved;
 
 use std::hint::black_box;
 
-use bench::Random;
-use cases::{case, Case, Weights};
+use bench::{Random, Weights};
+use cases::{case, Case};
 
 const DAYS: [usize; 2] = [31, 366];
 const CASES: usize = 256;
