@@ -4,7 +4,7 @@ pub mod call_lists;
 pub mod estimate;
 pub mod file_builder;
 pub mod hand_lists;
-mod loaded_days;
+pub mod loaded_days;
 pub mod prorations;
 pub mod recorder;
 pub mod replay;
