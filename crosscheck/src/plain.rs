@@ -5,6 +5,8 @@
 //! the count of users. Then 64 user numbers, 320 each of consumption, losses and balance, user by
 //! user and kind by kind, and 64 revisions.
 
+use std::fmt;
+
 use crate::calls::{self, Answer, Call, LineArguments, Row, STAND_IN_ROWS};
 use crate::inventory;
 use crate::limits::{KINDS, MAX_USERS, MAX_USER_NUMBER};
@@ -135,7 +137,7 @@ impl PlainCall {
 
 /// The rows of a stand-in in three lists: fifteen counts; user and amount of pair j of row i at
 /// 64 × i + j.
-#[derive(Clone, Debug, PartialEq, Eq)]
+#[derive(Clone, PartialEq, Eq)]
 pub struct PlainRows {
     pub counts: Vec<usize>,
     pub users: Vec<u16>,
@@ -174,6 +176,14 @@ impl PlainRows {
         }
         let pairs = MAX_USERS * i..MAX_USERS * i + count;
         pairs.map(|at| (self.users[at] as i128, self.amounts[at] as i128)).collect()
+    }
+}
+
+/// The lists' lengths, the counts, and the pairs of the rows.
+impl fmt::Debug for PlainRows {
+    fn fmt(&self, f: &mut fmt::Formatter) -> fmt::Result {
+        let (counts, users, amounts) = (&self.counts, self.users.len(), self.amounts.len());
+        write!(f, "counts {counts:?}, {users} users, {amounts} amounts, rows {:?}", self.rows())
     }
 }
 

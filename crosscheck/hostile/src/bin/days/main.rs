@@ -76,10 +76,12 @@ impl Memory {
         fill(&mut self.out);
         self.day.last_numbers(before.len()).copy_from_slice(before);
         let answer = self.call(before.len(), call)?;
+        let same = same_numbers(self.day.last_numbers(before.len()), &wanted.numbers);
         if answer != wanted.answer {
-            return Err(format!("the library answers {answer}, not {}", wanted.answer));
+            let numbers = same.err().unwrap_or_default();
+            return Err(format!("the library answers {answer}, not {}; {numbers}", wanted.answer));
         }
-        same_numbers(self.day.last_numbers(before.len()), &wanted.numbers)?;
+        same?;
         untouched(&mut self.day, before.len(), before.len(), "the point-day")?;
         let room = room_of(call);
         let written = 5 * wanted.rows.len();
