@@ -73,7 +73,7 @@ fn valid_day(rng: &mut Rng) -> PointDay {
         0 | 1 => nobody_joined(rng),
         2..=5 => reached(rng),
         6 | 7 => entered(rng),
-        8 => small_allotted(rng),
+        8 => allotted(rng),
         _ => unreachable_allotted(rng),
     }
 }
@@ -124,21 +124,14 @@ fn entered(rng: &mut Rng) -> PointDay {
     day
 }
 
-fn small_allotted(rng: &mut Rng) -> PointDay {
+/// Of any stage, half of them provisional, and some of them measured again.
+fn allotted(rng: &mut Rng) -> PointDay {
     let mut day = entered(rng);
     let net = rng.between(0, 1_000);
     day.measurement.get_or_insert(Measurement { emission: net, downstream: 0 });
     calls::make(&mut day, &Call::Allot).expect("it has a user and a measurement");
-    day
-}
-
-/// With balances and revisions of both signs that no list of calls gives, and any net.
-fn unreachable_allotted(rng: &mut Rng) -> PointDay {
-    let mut day = small_allotted(rng);
-    for _ in 0..1 + rng.below(6) {
-        let amount = rng.pick(&[1, 7, 100, 1_000_000, MAX_ENERGY]);
-        let amount = rng.between(-amount, amount);
-        move_between(&mut day, amount, rng);
+    if rng.one_in(2) {
+        day.stage = Stage::Provisional;
     }
     if rng.one_in(2) {
         bring_net_near(&mut day, rng);
@@ -146,7 +139,31 @@ fn unreachable_allotted(rng: &mut Rng) -> PointDay {
     day
 }
 
-/// Adds to one balance or revision what it takes from another.
+/// With balances and revisions of both signs that no list of calls gives.
+fn unreachable_allotted(rng: &mut Rng) -> PointDay {
+    let mut day = allotted(rng);
+    let within_users = rng.one_in(2);
+    for _ in 0..1 + rng.below(6) {
+        let size = rng.pick(&[1, 7, 100, 1_000_000, MAX_ENERGY, MAX_AMOUNT - 1_000]);
+        let amount = rng.between(-size, size);
+        if within_users {
+            move_within_user(&mut day, amount, rng);
+        } else {
+            move_between(&mut day, amount, rng);
+        }
+    }
+    day
+}
+
+/// Adds to a user's balance what it takes from the revision: the whole amount stays.
+fn move_within_user(day: &mut PointDay, amount: i128, rng: &mut Rng) {
+    let kind = rng.below(KINDS);
+    let slot = any_slot(day, rng);
+    slot.balance[kind] += amount;
+    slot.revision -= amount;
+}
+
+/// Adds to one balance or revision what it takes from another, of any user.
 fn move_between(day: &mut PointDay, amount: i128, rng: &mut Rng) {
     *balance_or_revision(day, rng) += amount;
     *balance_or_revision(day, rng) -= amount;
