@@ -1,4 +1,4 @@
-//! Tells the linker where `rt staticlib` wrote the static library.
+//! Tells the linker where `rt staticlib` wrote the static libraries.
 
 use std::path::Path;
 

@@ -50,4 +50,26 @@ impl Fenced {
     pub fn all(&mut self) -> &mut [u8] {
         self.bytes
     }
+
+    /// The last numbers before the fence.
+    pub fn last_numbers<T: Number>(&mut self, len: usize) -> &mut [T] {
+        let all = self.all_numbers();
+        let start = all.len() - len;
+        &mut all[start..]
+    }
+
+    /// All of the memory as numbers.
+    pub fn all_numbers<T: Number>(&mut self) -> &mut [T] {
+        // SAFETY: any bytes are such a number.
+        let (before, numbers, after) = unsafe { self.bytes.align_to_mut() };
+        assert!(before.is_empty() && after.is_empty(), "whole pages hold whole numbers");
+        numbers
+    }
 }
+
+/// Plain numbers: any bytes are one.
+pub trait Number: Copy {}
+
+impl Number for u16 {}
+impl Number for usize {}
+impl Number for i64 {}

@@ -33,6 +33,14 @@ pub fn some_untaken(out: &mut Recorder) {
     record_untaken(untaken().into_iter().take(FEW).collect(), out);
 }
 
+/// All of them: the taken ones and those that the calls on them reach, then the others.
+pub fn point_days() -> Vec<PointDay> {
+    let mut recorder = Recorder::new(true);
+    taken(&mut recorder);
+    let untaken = [untaken(), untaken_in_vectors()].concat();
+    recorder.point_days().into_iter().chain(untaken.into_iter().map(|(_, day)| day)).collect()
+}
+
 fn record_untaken(list: Vec<Untaken>, out: &mut Recorder) {
     for (_, day) in list {
         out.load(&day);

@@ -1,7 +1,7 @@
 //! Records the operations of `replay`.
 
 use crate::bytes::Writer;
-use crate::calls::Call;
+use crate::calls::{self, Call};
 use crate::point_day::PointDay;
 use crate::replay::Operation;
 
@@ -61,6 +61,24 @@ impl Recorder {
             }
         }
         lists
+    }
+
+    /// The point-days that the operations load, and those that the calls on them reach.
+    pub fn point_days(&self) -> Vec<PointDay> {
+        let mut days: Vec<PointDay> = Vec::new();
+        for operation in &self.operations {
+            match (operation, days.last()) {
+                (Operation::Load(day), _) => days.push(day.clone()),
+                (Operation::Call(call), Some(last)) => {
+                    let mut day = last.clone();
+                    if calls::make(&mut day, call).is_ok() {
+                        days.push(day);
+                    }
+                }
+                _ => {}
+            }
+        }
+        days
     }
 
     pub fn bytes(&self) -> Vec<u8> {

@@ -1,7 +1,6 @@
 //! Day files, valid and damaged, through the proved static library beside the calculation: the same
-//! bytes, and no other byte written. See ../README.md.
+//! bytes, and no other byte written. See crosscheck/README.md.
 
-mod fenced;
 mod proved;
 
 use std::collections::BTreeMap;
@@ -10,7 +9,7 @@ use std::process::ExitCode;
 
 use crosscheck::damaged::DayFiles;
 use crosscheck::{day_file, files};
-use fenced::Fenced;
+use hostile::fenced::Fenced;
 use proved::ROOM;
 
 /// Longer than any file here, and than any buffer.
@@ -18,22 +17,15 @@ const LONGEST_FILE: usize = 70_000;
 const LONGEST_BUFFER: usize = ROOM + 2_000;
 
 fn main() -> ExitCode {
-    match run() {
-        Ok(()) => ExitCode::SUCCESS,
-        Err(message) => {
-            eprintln!("hostile: {message}");
-            ExitCode::FAILURE
-        }
-    }
+    hostile::ended(run())
 }
 
 /// `[N [SEED]]`.
 fn run() -> Result<(), String> {
-    let count = argument(1, 100_000)?;
-    let seed = argument(2, 1)?;
+    let (count, seed) = hostile::count_and_seed()?;
     let mut memory = Memory { file: Fenced::new(LONGEST_FILE), out: Fenced::new(LONGEST_BUFFER) };
     let mut answers: BTreeMap<String, usize> = BTreeMap::new();
-    for (i, bytes) in DayFiles::new(seed).take(count as usize).enumerate() {
+    for (i, bytes) in DayFiles::new(seed).take(count).enumerate() {
         let report = day_file::report(&bytes);
         memory.check(i, &bytes, &report).map_err(|what| difference(i, &bytes, &report, &what))?;
         *answers.entry(answer(&report)).or_insert(0) += 1;
@@ -43,13 +35,6 @@ fn run() -> Result<(), String> {
     }
     println!("{count} files of seed {seed}: the same answers");
     Ok(())
-}
-
-fn argument(place: usize, otherwise: u64) -> Result<u64, String> {
-    match std::env::args().nth(place) {
-        None => Ok(otherwise),
-        Some(text) => text.parse().map_err(|_| format!("{text} is no number")),
-    }
 }
 
 /// `refused` with its number, or `point`.
