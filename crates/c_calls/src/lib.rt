@@ -143,7 +143,7 @@ pub extern "C" fn seatpomelo_line(
     if !plain_day::is_laid_out(day) {
         return OUT_OF_RANGE;
     }
-    let r = entry::line(plain_day::day_in(day), user, kind, consumption, coefficient);
+    let r = lines::line(plain_day::day_in(day), user, kind, consumption, coefficient);
     let answer = r.answer;
     let after = r.day;
     match answer {
@@ -160,7 +160,7 @@ pub extern "C" fn seatpomelo_measure(day: &mut [i64], emission: u64, downstream:
     if !plain_day::is_laid_out(day) {
         return OUT_OF_RANGE;
     }
-    let r = entry::measure(plain_day::day_in(day), emission, downstream);
+    let r = measurement::measure(plain_day::day_in(day), emission, downstream);
     let answer = r.answer;
     let after = r.day;
     match answer {

@@ -24,8 +24,8 @@ use Rattle.point_day.specs.declared.AllotAnswer.the-variants.{Refused, Done}
 use Rattle.point_day.specs.declared.PointDay.{PointDay}
 use Rattle.point_day.proofs.Good.{bare-good, taken-good}
 use Rattle.calendar.specs.Days.{LAST-DAY}
-use Rattle.entry.specs.Writes.{remeasured}
-use Rattle.entry.proofs.Measures.{measure-2, measure-done}
+use Rattle.measurement.specs.Remeasured.{remeasured}
+use Rattle.measurement.proofs.Measures.{measure-2, measure-done}
 use Rattle.day_book.specs.Book.{Call, measure, allot}
 use Rattle.day_file.specs.File.{gas-day, emission, downstream, sections, section-calls, well-formed, file-calls}
 use Rattle.io.specs.Counts.{Counts}

@@ -19,8 +19,8 @@ use Rattle.point_day.proofs.Taken.{taken-facts}
 use Rattle.point_day.proofs.Arrays.{Full, length-flat}
 use Rattle.point_day.proofs.Back.{flat-snoc, read-full, read-count, read-numbers, laid-read}
 use Rattle.point_day.proofs.Called.{called-refused, called-accepted, test-holds, test-passed, none-left}
-use Rattle.entry.specs.Writes.{appended}
-use Rattle.entry.proofs.Padding.{padded-snoc, padded-same}
+use Rattle.entry.specs.Appended.{appended}
+use Rattle.point_day.proofs.Padding.{padded-snoc, padded-same}
 
 -- ---- the day after join
 

@@ -1,5 +1,1 @@
-pub mod Padding
 pub mod Joins
-pub mod Lining
-pub mod Measures
-pub mod Cells

@@ -2,7 +2,7 @@
 use mathlib.Core.Path.{_≡_, refl, sym, ap, _∙_, subst}
 use mathlib.Core.Bool.{Bool, true, false, not}
 use mathlib.Core.List.{List, _∷_, map}
-use Prim.Native.Nat.{ℕ, _+_, _-_, _≤_, _<_}
+use Prim.Native.Nat.{ℕ, _+_, _≤_, _<_}
 use native.Mathlib.Omega.{arith}
 use lib.Dec.{leb, eqb}
 use lib.IntN.{ℤ, pos, negsuc, natAbs, _+ℤ_}
@@ -30,10 +30,12 @@ use Rattle.state.proofs.Totals.{offtake-is}
 use Rattle.numbers.proofs.Places.{every-at}
 use Rattle.state.proofs.Cells.{low-from}
 use Rattle.state.proofs.Facts.{Facts, facts}
-use Rattle.entry.specs.Writes.{line-losses, past-limit, more, place, Limited, with-cells, lined-at}
-use Rattle.entry.proofs.Padding.{map-set}
+use Rattle.line_cells.specs.Cell.{line-losses, past-limit, more, place, Limited}
+use Rattle.lines.specs.Lined.{with-cells, lined-at}
+use Rattle.point_day.proofs.Padding.{map-set}
 use Rattle.entry.proofs.Joins.{join-2, join-4, join-5, join-done}
-use Rattle.entry.proofs.Lining.{ranges, line-2, line-done}
+use Rattle.line_cells.proofs.Ranges.{ranges}
+use Rattle.lines.proofs.Lining.{line-2, line-done}
 use Rattle.day_book.specs.Book.{Call, join, line, move, verdict-of}
 use Rattle.day_file.specs.Report.{refused, unless-refused, in-order}
 use Rattle.file_entry.specs.Entering.{entering, Entered, user-refusal}

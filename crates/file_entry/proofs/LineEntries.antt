@@ -10,8 +10,8 @@ use Rattle.point_day.specs.Limits.{LIMIT}
 use Rattle.point_day.specs.Calls.{line-right}
 use Rattle.point_day.specs.declared.LineAnswer.{LineAnswer}
 use Rattle.point_day.specs.declared.LineAnswer.the-variants as line
-use Rattle.entry.specs.Writes.{line-losses, past-limit, line-on, more, place}
-use Rattle.entry.proofs.Lining.{ranges, losses-small}
+use Rattle.line_cells.specs.Cell.{line-losses, past-limit, line-on, more, place}
+use Rattle.line_cells.proofs.Ranges.{ranges, losses-small}
 use Rattle.file_entry.specs.Entering.{line-entry, is-added}
 use Rattle.file_entry.specs.declared.Entry.{Entry}
 use Rattle.file_entry.specs.declared.Entry.the-variants.{Refused, Offtake}

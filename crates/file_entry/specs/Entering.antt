@@ -17,7 +17,7 @@ use Rattle.point_day.specs.declared.Stage.the-variants.{Provisional}
 use Rattle.point_day.specs.declared.Measurement.{Measurement}
 use Rattle.point_day.specs.declared.Measurement.the-variants.{Unmeasured}
 use Rattle.point_day.specs.declared.PointDay.{PointDay}
-use Rattle.entry.specs.Writes.{line-losses, past-limit}
+use Rattle.line_cells.specs.Cell.{line-losses, past-limit}
 use Rattle.day_book.specs.Book.{Call}
 use Rattle.day_file.specs.Report.{refused, in-order}
 use Rattle.file_entry.specs.declared.Entry.{Entry}

@@ -7,7 +7,7 @@ ghost use lib.ListN.{length, set};
 ghost use Rattle.numbers.specs.Sums.{pick};
 ghost use Rattle.numbers.specs.Lists.{flat};
 ghost use Rattle.point_day.specs.Limits.{USERS, LIMIT};
-ghost use Rattle.entry.specs.Writes.{line-losses, more, place, Limited};
+ghost use Rattle.line_cells.specs.Cell.{line-losses, more, place, Limited};
 ghost use Rattle.day_file.specs.File.{LINE, u8, u16, u32, pair-count, section-at, sections, section-calls, well-formed};
 ghost use Rattle.file_entry.specs.Entering.{entering, Entered, Unless-refused, Comes-to, line-entry, is-added, user-refusal};
 use day_file::COEFFICIENT;
@@ -47,10 +47,10 @@ fn enter_line(
     let kind = wire::read_u8(file, at) as u8;
     let amount = wire::read_u32(file, at + CONSUMPTION);
     let coefficient = wire::read_u16(file, at + COEFFICIENT);
-    if !entry::line_right(user, kind, amount, coefficient) {
+    if !line_cells::line_right(user, kind, amount, coefficient) {
         return Entry::Refused(2);
     }
-    match entry::line_cell(
+    match line_cells::line_cell(
         consumption,
         losses,
         slot,

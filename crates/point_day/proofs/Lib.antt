@@ -1,6 +1,7 @@
 pub mod Taken
 pub mod Arrays
 pub mod Back
+pub mod Padding
 pub mod Called
 pub mod Each
 pub mod Sound

@@ -75,7 +75,7 @@ fn line(s: &[u8], from: Cursor, day: PointDay) -> Outcome {
     if !next.ok {
         return Outcome { next, day };
     }
-    let r = entry::line(day, a.user, a.kind, a.consumption, a.coefficient);
+    let r = lines::line(day, a.user, a.kind, a.consumption, a.coefficient);
     let after = r.day;
     let answer = r.answer;
     print_line(b"line", answer);
@@ -88,7 +88,7 @@ fn edit(s: &[u8], from: Cursor, day: PointDay) -> Outcome {
     if !next.ok {
         return Outcome { next, day };
     }
-    let r = entry::line_by_edit(day, a.user, a.kind, a.consumption, a.coefficient);
+    let r = lines::line_by_edit(day, a.user, a.kind, a.consumption, a.coefficient);
     let after = r.day;
     let answer = r.answer;
     print_line(b"edit", answer);
@@ -102,7 +102,7 @@ fn measure(s: &[u8], from: Cursor, day: PointDay) -> Outcome {
     if !next.ok {
         return Outcome { next, day };
     }
-    let r = entry::measure(day, emission.value, downstream.value);
+    let r = measurement::measure(day, emission.value, downstream.value);
     let after = r.day;
     let answer = r.answer;
     match answer {

@@ -1,7 +1,7 @@
 -- `file_entry::enter_line` meets its contract. Assumes nothing.
 use mathlib.Core.Path.{sym, _∙_}
 use borrow.Author.Tests.{not-true, not-false}
-use Rattle.entry.proofs.Lining.{ranges}
+use Rattle.line_cells.proofs.Ranges.{ranges}
 use Rattle.file_entry.proofs.LineEntries.{out-of-range, past, small, added, as-read}
 use borrow.Author.Needs.{needs}
 use native.Mathlib.Omega.{arith}

@@ -1,0 +1,38 @@
+-- `line_cells::add_at` meets its contract. Assumes nothing.
+use borrow.Author.Needs.{needs}
+use Rattle.line_cells.proofs.Cells.{cell-fits, cell-back}
+use Rattle.line_cells.proofs.add_at.Statement.{statement}
+use Rattle.line_cells.proofs.add_at.Tie as tie
+
+mul-cells : tie.Need-mul-cells
+mul-cells c = search needs
+
+element-copy-out-cells : tie.Need-element-copy-out-cells
+element-copy-out-cells c = search needs
+
+cast-cells : tie.Need-cast-cells
+cast-cells c = search needs
+
+add-cells : tie.Need-add-cells
+add-cells c = cell-fits _ (c .before .args .x) (c .before .pre .2 _) (c .before .pre .1)
+
+mul-t10 : tie.Need-mul-t10
+mul-t10 c = search needs
+
+element-set-from-cells : tie.Need-element-set-from-cells
+element-set-from-cells c = search needs
+
+returns : tie.Need-returns
+returns c = rw (cell-back _ (c .before .args .x) (c .before .pre .2 (c .before .args .i)) (c .before .pre .1))
+
+pub add-at-spec : {M : Type 1} → statement M
+add-at-spec =
+    tie.close
+    (tie.spec
+    mul-cells
+    element-copy-out-cells
+    cast-cells
+    add-cells
+    mul-t10
+    element-set-from-cells
+    returns)

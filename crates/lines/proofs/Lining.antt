@@ -1,0 +1,167 @@
+-- Line: a line added at its cell is the layout of the day after it, and each outcome of the call. Assumes nothing.
+use mathlib.Core.Path.{_≡_, refl, sym, ap, ap₂, _∙_}
+use mathlib.Core.Bool.{Bool, true, false, not}
+use mathlib.Core.List.{List, [], _∷_, map}
+use Prim.Native.Nat.{ℕ, zero, suc, _+_, _-_, _*_, _<_}
+use native.Mathlib.Omega.{arith}
+use lib.Dec.{eqb}
+use lib.IntN.{ℤ, pos}
+use lib.ListN.{length, getD, take, set, length-map, length-set, List·getD-map}
+use lib.Seq.{getD-take, map-set-same}
+use borrow.Author.Tests.{eqb-false, eq-eqb, ne-eqb, not-true}
+use Rattle.numbers.specs.Sums.{pick, at}
+use Rattle.numbers.specs.Lists.{has, distinct, flat}
+use Rattle.numbers.specs.Nearest.{nearest}
+use Rattle.numbers.proofs.Lists.{All, all-map, true≢false, both-fst, both-snd, either-fst, either-snd, has-at}
+use Rattle.point_day.specs.Limits.{USERS, CELLS, PARTS}
+use Rattle.point_day.specs.Day.{User, Day, numbers, all-offtake}
+use Rattle.point_day.specs.Calls.{refused, losses-added, verdict, with-users, cell-step, user-line, for-user, line-right, line}
+use Rattle.point_day.specs.Answers.{line-answer}
+use Rattle.point_day.specs.Struct.{Sized, read, padded, laid, taken, outcome, called}
+use Rattle.point_day.specs.declared.LineAnswer.{LineAnswer}
+use Rattle.point_day.specs.declared.LineAnswer.the-variants.{Refused, LossesAdded}
+use Rattle.point_day.specs.declared.LineResult.{LineResult}
+use Rattle.point_day.specs.declared.PointDay.{PointDay}
+use Rattle.point_day.proofs.Taken.{taken-facts}
+use Rattle.point_day.proofs.Arrays.{Full, nobody, length-flat}
+use Rattle.point_day.proofs.Back.{read-full, read-count, read-numbers, laid-read}
+use Rattle.point_day.proofs.Called.{called-refused, called-accepted, test-holds, test-passed, none-left}
+use Rattle.state.specs.Places.{Placed}
+use Rattle.lines.specs.Lined.{with-cells, lined-at}
+use Rattle.line_cells.specs.Cell.{line-losses, past-limit, line-on, place, more}
+use Rattle.line_cells.proofs.Ranges.{ranges}
+use Rattle.point_day.proofs.Padding.{padded-set, map-set, flat-set, at-flat}
+
+-- ---- one user of many
+
+for-nobody : (n : ℕ) (f : User → User) (us : List User) → has n (numbers us) ≡ false → map (for-user n f) us ≡ us
+unfolding has
+for-nobody n f [] e = refl
+for-nobody n f (u ∷ us) e =
+    ap₂ _∷_ (ap (λ p. pick p (f u) u) (ne-eqb (u .number) n (λ z. eqb-false n (u .number) (either-fst (eqb n (u .number)) _ e) (sym z))))
+    (for-nobody n f us (either-snd (eqb n (u .number)) _ e))
+
+map-for : (n : ℕ) (f : User → User) (us : List User) (s : ℕ) → distinct (numbers us) ≡ true → s < length us → at (numbers us) s ≡ n
+    → map (for-user n f) us ≡ set us s (f (getD us s nobody))
+unfolding distinct
+map-for n f [] s e l h = absurd (omega arith)
+map-for n f (u ∷ us) zero e l h =
+    ap₂ _∷_ (ap (λ p. pick p (f u) u) (eq-eqb (u .number) n h))
+    (for-nobody n f us (ap (λ m. has m (numbers us)) (sym h) ∙ not-true _ (both-fst (not (has (u .number) (numbers us))) _ e)))
+map-for n f (u ∷ us) (suc s) e l h =
+    ap₂ _∷_
+    (ap (λ p. pick p (f u) u)
+    (ne-eqb (u .number) n (λ z. true≢false (sym (has-at (u .number) (numbers us) s (omega (arith, length-map us (λ (u : User). u .number))) (h ∙ sym z)) ∙ not-true _ (both-fst (not (has (u .number) (numbers us))) _ e)))))
+    (map-for n f us s (both-snd (not (has (u .number) (numbers us))) _ e) (omega arith) h)
+
+-- ---- the day after line
+
+module _ (n kind c k : ℕ) (D : Day) (full : All Full (D .users)) (apart : distinct (numbers (D .users)) ≡ true) (s : ℕ) (m : s < length (D .users)) (here : at (numbers (D .users)) s ≡ n) (r : kind - 1 < 5) where
+  cells : (g : User → List ℕ) (x : ℕ) → All (λ u. length (g u) ≡ 5) (D .users)
+      → g (user-line kind c k (getD (D .users) s nobody)) ≡ set (g (getD (D .users) s nobody)) (kind - 1) (getD (g (getD (D .users) s nobody)) (kind - 1) 0 + x)
+      → padded CELLS (pos 0) (flat (map (λ u. map pos (g u)) (set (D .users) s (user-line kind c k (getD (D .users) s nobody)))))
+      ≡ more (place s kind) x (padded CELLS (pos 0) (flat (map (λ u. map pos (g u)) (D .users))))
+  cells g x h e =
+      let u = getD (D .users) s nobody in
+      let h′ = all-map (λ u. length (g u) ≡ 5) (λ u. length (map pos (g u)) ≡ 5) (λ u q. length-map (g u) pos ∙ q) (D .users) h in
+      rw (at-flat (pos 0) (pos 0) (λ u. map pos (g u)) (D .users) s (kind - 1) h′ m r, List·getD-map pos (g u) (kind - 1) 0)
+      (ap (padded CELLS (pos 0)) (flat-set (λ u. map pos (g u)) (D .users) s (kind - 1) (pos (getD (g u) (kind - 1) 0 + x)) (user-line kind c k u) h′ m r (ap (map pos) e ∙ map-set pos (g u) (kind - 1) (getD (g u) (kind - 1) 0 + x)))
+      ∙ padded-set (pos 0) CELLS (flat (map (λ u. map pos (g u)) (D .users))) (5 * s + (kind - 1)) (pos (getD (g u) (kind - 1) 0 + x)) (omega (arith, length-flat (λ u. map pos (g u)) (D .users) h′)))
+
+  laid-line : laid (with-users (map (for-user n (user-line kind c k)) (D .users)) D)
+      ≡ with-cells (more (place s kind) c (laid D .consumption)) (more (place s kind) (line-losses c k) (laid D .losses)) (laid D)
+  unfolding laid cell-step
+  laid-line = ap (λ us. laid (with-users us D)) (map-for n (user-line kind c k) (D .users) s apart m here) ∙ (λ i. record {
+    stage = D .stage;
+    allotted = D .allotted;
+    measurement = D .measurement;
+    count = length-set (D .users) s w i;
+    users = padded USERS 0 (map-set-same (λ (u : User). u .number) (D .users) s w nobody refl i);
+    consumption = cells (λ (u : User). u .consumption) c (all-map Full _ (λ u h. h .consumption) (D .users) full) refl i;
+    losses = cells (λ (u : User). u .losses) (nearest (c * k) PARTS) (all-map Full _ (λ u h. h .losses) (D .users) full) refl i;
+    balance = padded CELLS (pos 0) (flat (map-set-same (λ (u : User). u .balance) (D .users) s w nobody refl i));
+    revision = padded USERS (pos 0) (map-set-same (λ (u : User). u .revision) (D .users) s w nobody refl i);
+  })
+    where
+      w : User
+      w = user-line kind c k (getD (D .users) s nobody)
+
+-- ---- the outcomes
+
+module _ (n kind c k : ℕ) (d : PointDay) (z : Sized d) (ok : taken d ≡ true) where
+  line-tests : verdict (line n kind c k (read d) .tests)
+      ≡ verdict
+      (record { number = 1; holds = d .allotted }
+      ∷ record { number = 2; holds = not (line-right n kind c k) }
+      ∷ record { number = 3; holds = not (has n (take (d .count) (d .users))) }
+      ∷ record { number = 6; holds = past-limit (all-offtake (read d .users)) c k }
+      ∷ [])
+  unfolding line cell-step
+  line-tests = rw (read-numbers d z (taken-facts d ok)) (unfold read in refl)
+
+  pub line-1 : d .allotted ≡ true → outcome (refused 1) d ≡ called (line n kind c k) d
+  line-1 e = called-refused (line n kind c k) d 1 ok (line-tests ∙ test-holds 1 (d .allotted) _ e)
+
+  module _ (e : d .allotted ≡ false) where
+    pub line-2 : line-right n kind c k ≡ false → outcome (refused 2) d ≡ called (line n kind c k) d
+    line-2 h = called-refused (line n kind c k) d 2 ok (line-tests ∙ test-passed 1 (d .allotted) _ e (test-holds 2 (not (line-right n kind c k)) _ (ap not h)))
+
+    module _ (h : line-right n kind c k ≡ true) (s : ℕ) (at-s : Placed n (d .count) (d .users) s) where
+      pub line-3 : s ≡ d .count → outcome (refused 3) d ≡ called (line n kind c k) d
+      line-3 m =
+          called-refused (line n kind c k) d 3 ok
+          (line-tests ∙ test-passed 1 (d .allotted) _ e (test-passed 2 (not (line-right n kind c k)) _ (ap not h) (test-holds 3 (not (has n (take (d .count) (d .users)))) _ (ap not (at-s .missing m)))))
+
+      module _ (m : s < d .count) where
+        here : at (numbers (read d .users)) s ≡ n
+        here = rw (read-numbers d z (taken-facts d ok)) (getD-take (d .count) (d .users) s 0 m ∙ at-s .there m)
+
+        found : has n (take (d .count) (d .users)) ≡ true
+        found =
+            let t = taken-facts d ok in
+            sym (ap (has n) (read-numbers d z t))
+            ∙ has-at n (numbers (read d .users)) s (omega (arith, length-map (read d .users) (λ (u : User). u .number), read-count d z t)) here
+
+        after : with-cells (more (place s kind) c (d .consumption)) (more (place s kind) (line-losses c k) (d .losses)) d ≡ laid (line n kind c k (read d) .after)
+        unfolding line
+        after =
+            let t = taken-facts d ok in
+            let r = ranges n kind c k h in
+            sym
+            (laid-line n kind c k (read d) (read-full d z t) (t .apart) s (omega (arith, read-count d z t)) here (omega (arith, r .high))
+            ∙ ap (λ (x : PointDay). with-cells (more (place s kind) c (x .consumption)) (more (place s kind) (line-losses c k) (x .losses)) x) (laid-read d z t))
+
+        pub line-done : (r : LineResult) (sum : ℕ) → sum ≡ all-offtake (read d .users) → r ≡ lined-at s kind c k sum d → outcome (line-answer (r .answer)) (r .day) ≡ called (line n kind c k) d
+        line-done r sum q w =
+            ap (λ (x : LineResult). outcome (line-answer (x .answer)) (x .day)) (w ∙ ap (λ y. lined-at s kind c k y d) q)
+            ∙ go (past-limit (all-offtake (read d .users)) c k) refl
+          where
+            passed : (b : Bool) → past-limit (all-offtake (read d .users)) c k ≡ b → verdict (line n kind c k (read d) .tests) ≡ verdict (record { number = 6; holds = b } ∷ [])
+            passed b x =
+                line-tests
+                ∙ test-passed 1 (d .allotted) _ e (test-passed 2 (not (line-right n kind c k)) _ (ap not h) (test-passed 3 (not (has n (take (d .count) (d .users)))) _ (ap not found) (ap (λ y. verdict (record { number = 6; holds = y } ∷ [])) x)))
+
+            go : (b : Bool) → past-limit (all-offtake (read d .users)) c k ≡ b
+                → outcome (line-answer (pick b (Refused 6) (LossesAdded (line-losses c k))))
+                (pick b d (with-cells (more (place s kind) c (d .consumption)) (more (place s kind) (line-losses c k) (d .losses)) d))
+                ≡ called (line n kind c k) d
+            go true x = called-refused (line n kind c k) d 6 ok (passed true x ∙ test-holds 6 true [] refl)
+            go false x =
+                ap (outcome (losses-added (line-losses c k))) after
+                ∙ unfold line cell-step in called-accepted (line n kind c k) d ok (passed false x ∙ test-passed 6 false [] refl none-left)
+
+-- ---- a line at a slot, in the code
+
+module _ (sum c k slot kind : ℕ) (d : PointDay) where
+  pub lined-is : {a : LineAnswer} {cs ls : List ℤ} → a ≡ line-on sum c k
+      → cs ≡ pick (past-limit sum c k) (d .consumption) (more (place slot kind) c (d .consumption))
+      → ls ≡ pick (past-limit sum c k) (d .losses) (more (place slot kind) (line-losses c k) (d .losses))
+      → _≡_ {A = LineResult} (record { answer = a; day = with-cells cs ls d }) (lined-at slot kind c k sum d)
+  lined-is {a} {cs} {ls} p q w =
+      (λ i. record { answer = p i; day = with-cells (q i) (w i) d })
+      ∙ ap (λ (y : PointDay). record { answer = line-on sum c k; day = y }) (go (past-limit sum c k))
+    where
+      go : (b : Bool) → with-cells (pick b (d .consumption) (more (place slot kind) c (d .consumption))) (pick b (d .losses) (more (place slot kind) (line-losses c k) (d .losses))) d
+          ≡ pick b d (with-cells (more (place slot kind) c (d .consumption)) (more (place slot kind) (line-losses c k) (d .losses)) d)
+      go true = refl
+      go false = refl
