@@ -32,7 +32,7 @@ use Rattle.io.specs.Counts.{Counts}
 use Rattle.wire.specs.Text.{written}
 use Rattle.day_file.specs.Report.{Report, refused, allotted, in-order, report}
 use Rattle.day_file.specs.Text.{text}
-use Rattle.report_text.specs.Lines.{TEXT-ROOM}
+use Rattle.refusal_text.specs.Room.{TEXT-ROOM}
 use Rattle.file_entry.specs.Entering.{entering, Entered, Comes-to, unjoined}
 use Rattle.file_entry.specs.declared.Entry.{Entry}
 use Rattle.file_entry.specs.declared.Entry.the-variants.{Refused as Stopped, Offtake}

@@ -15,7 +15,7 @@ ghost use Rattle.day_book.specs.Book.{allot};
 ghost use Rattle.day_file.specs.File.{well-formed};
 ghost use Rattle.day_file.specs.Report.{in-order, report};
 ghost use Rattle.day_file.specs.Text.{text};
-ghost use Rattle.report_text.specs.Lines.{TEXT-ROOM};
+ghost use Rattle.refusal_text.specs.Room.{TEXT-ROOM};
 ghost use Rattle.day_report.specs.Entered.{entered-and-allotted};
 use calendar::LAST_DAY;
 use calendar::OUT_OF_RANGE;
@@ -44,7 +44,7 @@ fn finish(out: &mut [u8], gas_day: u64, day: PointDay) -> usize
     let allotted = allotment::allot_taken(day);
     let answer = allotted.answer;
     match answer {
-        AllotAnswer::Refused(number) => report_text::put_refused(out, number),
+        AllotAnswer::Refused(number) => refusal_text::put_refused(out, number),
         AllotAnswer::Done => {
             let day = allotted.day;
             report_text::put_allotted(out, gas_day, day)
@@ -63,7 +63,7 @@ fn enter(file: &[u8], out: &mut [u8], gas_day: u64, emission: u64, downstream: u
     let mut losses = [0i64; CELLS];
     let count = wire::read_u16(file, PAIR_COUNT) as usize;
     match file_entry::enter_sections(file, count, &mut users, &mut consumption, &mut losses) {
-        Entry::Refused(number) => report_text::put_refused(out, number),
+        Entry::Refused(number) => refusal_text::put_refused(out, number),
         Entry::Offtake(_) => {
             let entered = PointDay {
                 stage: Stage::Provisional,
@@ -88,16 +88,16 @@ fn put_report(file: &[u8], out: &mut [u8]) -> usize
     ensures { λ r. ⌜ now (out .exit) ≡ written (now (out .entry)) 0 (text (report (now (file .entry)))) ⌝ }
 {
     if !day_file::is_well_formed(file) {
-        return report_text::put_refused(out, MALFORMED);
+        return refusal_text::put_refused(out, MALFORMED);
     }
     let gas_day = wire::read_u32(file, GAS_DAY);
     if (LAST_DAY as u64) < gas_day {
-        return report_text::put_refused(out, OUT_OF_RANGE);
+        return refusal_text::put_refused(out, OUT_OF_RANGE);
     }
     let emission = wire::read_u32(file, EMISSION);
     let downstream = wire::read_u32(file, DOWNSTREAM);
     if !state::emission_right(emission, downstream) {
-        return report_text::put_refused(out, OUT_OF_RANGE);
+        return refusal_text::put_refused(out, OUT_OF_RANGE);
     }
     enter(file, out, gas_day, emission, downstream)
 }

@@ -3,7 +3,7 @@ use Prim.Native.Nat.{_*_}
 use lib.ListN.{length-take}
 use Rattle.numbers.proofs.Amounts.{widen}
 use Rattle.state.specs.Places.{ROOM}
-use Rattle.report_text.proofs.Figures.{within-part}
+use Rattle.report_lines.proofs.Sizes.{within-part}
 use borrow.Author.Needs.{needs}
 use native.Mathlib.Omega.{arith}
 use Rattle.report_text.proofs.of_slots.Statement.{statement}

@@ -2,8 +2,10 @@
 use mathlib.Core.Path.{ap, _∙_}
 use Rattle.point_day.proofs.Taken.{taken-facts}
 use Rattle.state.proofs.Facts.{facts, laid-day}
-use Rattle.report_text.proofs.Writing.{put-first, put-more, put-as}
-use Rattle.report_text.proofs.Figures.{allotted-text, start-within, wrapped, cast-back, line-as}
+use Rattle.refusal_text.proofs.Writing.{put-first, put-more, put-as}
+use Rattle.report_text.proofs.Figures.{allotted-text}
+use Rattle.report_lines.proofs.Sizes.{start-within, wrapped, line-as}
+use Rattle.refusal_text.proofs.Casts.{cast-back}
 use Rattle.numbers.specs.Sums.{table}
 use Rattle.numbers.specs.Lists.{flat}
 use Prim.Native.Nat.{_+_, _*_}
@@ -13,7 +15,7 @@ use lib.ListN.{length, take}
 use Rattle.numbers.specs.Sums.{totalZ}
 use Rattle.wire.specs.Text.{written}
 use Rattle.day_file.specs.Text.{text-line, point-word}
-use Rattle.report_text.specs.Lines.{slot-line}
+use Rattle.report_lines.specs.Lines.{slot-line}
 use borrow.Author.Needs.{needs}
 use native.Mathlib.Omega.{arith}
 use Rattle.report_text.proofs.put_allotted.Statement.{statement}

@@ -3,8 +3,8 @@ use mathlib.Core.Path.{_≡_, ap}
 use Prim.Native.Nat.{_≤_, _+_, _-_, _*_}
 use Rattle.numbers.specs.Sums.{table}
 use Rattle.numbers.specs.Lists.{flat}
-use Rattle.report_text.specs.Lines.{LONGEST-LINE, slot-line}
-use Rattle.report_text.proofs.Writing.{Put, put-length, put-more, put-none, put-as}
+use Rattle.report_lines.specs.Lines.{LONGEST-LINE, slot-line}
+use Rattle.refusal_text.proofs.Writing.{Put, put-length, put-more, put-none, put-as}
 use Rattle.report_text.proofs.Figures.{one-more}
 use borrow.Author.Needs.{needs}
 use native.Mathlib.Omega.{arith}

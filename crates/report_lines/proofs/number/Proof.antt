@@ -1,11 +1,11 @@
--- `report_text::number` meets its contract. Assumes nothing.
+-- `report_lines::number` meets its contract. Assumes nothing.
 use mathlib.Core.Path.{subst⁻¹}
 use Rattle.numbers.specs.Amounts.{Within}
-use Rattle.report_text.proofs.Figures.{cast-back}
+use Rattle.refusal_text.proofs.Casts.{cast-back}
 use borrow.Author.Needs.{needs}
 use native.Mathlib.Omega.{arith}
-use Rattle.report_text.proofs.number.Statement.{statement}
-use Rattle.report_text.proofs.number.Tie as tie
+use Rattle.report_lines.proofs.number.Statement.{statement}
+use Rattle.report_lines.proofs.number.Tie as tie
 
 cast-result : tie.Need-cast-result
 cast-result c = search needs

@@ -1,15 +1,15 @@
--- `report_text::put_number` meets its contract. Assumes nothing.
+-- `refusal_text::put_number` meets its contract. Assumes nothing.
 use mathlib.Core.Path.{_∙_, ap}
 use Prim.Native.Nat.{_+_}
 use lib.ListN.{length, set, length-set}
 use mir.Facts.{toZ-ofZ}
 use Rattle.wire.specs.Text.{decimal, written}
 use Rattle.day_file.specs.Text.{SPACE}
-use Rattle.report_text.proofs.Writing.{put-more, put-one, put-none}
+use Rattle.refusal_text.proofs.Writing.{put-more, put-one, put-none}
 use borrow.Author.Needs.{needs}
 use native.Mathlib.Omega.{arith}
-use Rattle.report_text.proofs.put_number.Statement.{statement}
-use Rattle.report_text.proofs.put_number.Tie as tie
+use Rattle.refusal_text.proofs.put_number.Statement.{statement}
+use Rattle.refusal_text.proofs.put_number.Tie as tie
 
 slice-write-out : tie.Need-slice-write-out
 slice-write-out c = search needs

@@ -1,14 +1,14 @@
--- `report_text::put_refused` meets its contract. Assumes nothing.
+-- `refusal_text::put_refused` meets its contract. Assumes nothing.
 use lib.IntN.{pos}
 use Rattle.day_file.specs.Text.{LINE-FEED, refused-word, text}
 use mir.Syntax.{w64}
 use mir.Val.{toZ}
-use Rattle.report_text.proofs.Writing.{put-length, put-next, put-one, put-first, put-as, one-number}
-use Rattle.report_text.proofs.Figures.{cast-back}
+use Rattle.refusal_text.proofs.Writing.{put-length, put-next, put-one, put-first, put-as, one-number}
+use Rattle.refusal_text.proofs.Casts.{cast-back}
 use borrow.Author.Needs.{needs}
 use native.Mathlib.Omega.{arith}
-use Rattle.report_text.proofs.put_refused.Statement.{statement}
-use Rattle.report_text.proofs.put_refused.Tie as tie
+use Rattle.refusal_text.proofs.put_refused.Statement.{statement}
+use Rattle.refusal_text.proofs.put_refused.Tie as tie
 
 slice-aggregate-put-text : tie.Need-slice-aggregate-put-text
 slice-aggregate-put-text c = search needs

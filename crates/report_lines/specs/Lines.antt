@@ -7,10 +7,6 @@ use Rattle.numbers.specs.Sums.{atZ, totalZ}
 use Rattle.point_day.specs.Struct.{kinds-of}
 use Rattle.day_file.specs.Text.{text-line, user-word}
 
--- room for the longest text: a line for the point and one for each of 64 users
-abbrev pub TEXT-ROOM : ℕ
-TEXT-ROOM = 8192
-
 -- no line is longer
 abbrev pub LONGEST-LINE : ℕ
 LONGEST-LINE = 116

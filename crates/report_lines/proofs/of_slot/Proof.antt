@@ -1,15 +1,15 @@
--- `report_text::of_slot` meets its contract. Assumes nothing.
+-- `report_lines::of_slot` meets its contract. Assumes nothing.
 use mathlib.Core.Path.{_≡_, ap, _∙_}
 use Prim.Native.Nat.{_+_, _-_, _*_}
 use lib.ListN.{take, drop, length-take}
 use Rattle.numbers.specs.Sums.{totalZ}
 use Rattle.numbers.proofs.Amounts.{widen}
 use Rattle.state.specs.Places.{ROOM}
-use Rattle.report_text.proofs.Figures.{within-part, slot-within, wrapped}
+use Rattle.report_lines.proofs.Sizes.{within-part, slot-within, wrapped}
 use borrow.Author.Needs.{needs}
 use native.Mathlib.Omega.{arith}
-use Rattle.report_text.proofs.of_slot.Statement.{statement}
-use Rattle.report_text.proofs.of_slot.Tie as tie
+use Rattle.report_lines.proofs.of_slot.Statement.{statement}
+use Rattle.report_lines.proofs.of_slot.Tie as tie
 
 mul-start : tie.Need-mul-start
 mul-start c = search needs

@@ -1,13 +1,13 @@
--- `report_text::put_line` meets its contract. Assumes nothing.
+-- `report_lines::put_line` meets its contract. Assumes nothing.
 use mir.Facts.{toZ-ofZ}
 use mir.Syntax.{w64}
 use mir.Val.{toZ, ofZ}
 use Rattle.day_file.specs.Text.{LINE-FEED}
-use Rattle.report_text.proofs.Writing.{put-length, put-next, put-one, put-first, put-as, five-numbers}
+use Rattle.refusal_text.proofs.Writing.{put-length, put-next, put-one, put-first, put-as, five-numbers}
 use borrow.Author.Needs.{needs}
 use native.Mathlib.Omega.{arith}
-use Rattle.report_text.proofs.put_line.Statement.{statement}
-use Rattle.report_text.proofs.put_line.Tie as tie
+use Rattle.report_lines.proofs.put_line.Statement.{statement}
+use Rattle.report_lines.proofs.put_line.Tie as tie
 
 put-text-requires : tie.Need-put-text-requires
 put-text-requires c κs = search needs

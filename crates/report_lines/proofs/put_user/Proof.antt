@@ -1,15 +1,15 @@
--- `report_text::put_user` meets its contract. Assumes nothing.
+-- `report_lines::put_user` meets its contract. Assumes nothing.
 use mathlib.Core.Path.{refl, ap, _∙_}
 use Prim.Native.Nat.{_+_}
 use lib.ListN.{length}
 use Rattle.numbers.proofs.Amounts.{within-add}
 use Rattle.wire.specs.Text.{written}
 use Rattle.day_file.specs.Text.{user-word}
-use Rattle.report_text.proofs.Figures.{slot-within, wrapped, safe, wrapped-sum, line-as}
+use Rattle.report_lines.proofs.Sizes.{slot-within, wrapped, safe, wrapped-sum, line-as}
 use borrow.Author.Needs.{needs}
 use native.Mathlib.Omega.{arith}
-use Rattle.report_text.proofs.put_user.Statement.{statement}
-use Rattle.report_text.proofs.put_user.Tie as tie
+use Rattle.report_lines.proofs.put_user.Statement.{statement}
+use Rattle.report_lines.proofs.put_user.Tie as tie
 
 of-slot-requires : tie.Need-of-slot-requires
 of-slot-requires c κs = search needs
