@@ -34,8 +34,8 @@ use Rattle.day_file.specs.Report.{Report, refused, allotted, in-order, report}
 use Rattle.day_file.specs.Text.{text}
 use Rattle.refusal_text.specs.Room.{TEXT-ROOM}
 use Rattle.file_entry.specs.Entering.{entering, Entered, Comes-to, unjoined}
-use Rattle.file_entry.specs.declared.Entry.{Entry}
-use Rattle.file_entry.specs.declared.Entry.the-variants.{Refused as Stopped, Offtake}
+use Rattle.file_lines.specs.declared.Entry.{Entry}
+use Rattle.file_lines.specs.declared.Entry.the-variants.{Refused as Stopped, Offtake}
 use Rattle.file_entry.proofs.Taking.{outcome-taken}
 use Rattle.file_entry.proofs.Entries.{step}
 use Rattle.day_report.specs.Entered.{entered-and-allotted}

@@ -23,7 +23,7 @@ use day_file::DOWNSTREAM;
 use day_file::EMISSION;
 use day_file::GAS_DAY;
 use day_file::PAIR_COUNT;
-use file_entry::Entry;
+use file_lines::Entry;
 use point_day::AllotAnswer;
 use point_day::CELLS;
 use point_day::Measurement;

@@ -1,5 +1,5 @@
 ghost use mathlib.Core.Path.{_≡_};
-ghost use Prim.Native.Nat.{_+_, _<_};
+ghost use Prim.Native.Nat.{_<_};
 ghost use Rattle.point_day.specs.Limits.{USERS};
 ghost use Rattle.point_day.specs.Calls.{refused, join};
 ghost use Rattle.point_day.specs.Answers.{join-answer};

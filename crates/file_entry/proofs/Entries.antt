@@ -8,7 +8,7 @@ use lib.Dec.{leb, eqb}
 use lib.IntN.{ℤ, pos, negsuc, natAbs, _+ℤ_}
 use lib.ListN.{length, getD, take, set, length-set, length-map, length-replicate, List·getD-map}
 use lib.Seq.{getD-set-same}
-use borrow.Author.Tests.{leb-true, leb-false, le-leb, lt-leb, eqb-true, eqb-false, eq-eqb, ne-eqb, not-true}
+use borrow.Author.Tests.{leb-true, leb-false, eqb-true, eqb-false, eq-eqb, not-true}
 use Rattle.numbers.specs.Sums.{pick, atZ, total}
 use Rattle.numbers.specs.Lists.{has}
 use Rattle.numbers.specs.Amounts.{is-negative}
@@ -38,7 +38,8 @@ use Rattle.line_cells.proofs.Ranges.{ranges}
 use Rattle.lines.proofs.Lining.{line-2, line-done}
 use Rattle.day_book.specs.Book.{Call, join, line, move, verdict-of}
 use Rattle.day_file.specs.Report.{refused, unless-refused, in-order}
-use Rattle.file_entry.specs.Entering.{entering, Entered, user-refusal}
+use Rattle.file_entry.specs.Entering.{entering, Entered}
+use Rattle.file_lines.specs.Pieces.{user-refusal}
 use Rattle.file_entry.proofs.Taking.{outcome-taken}
 
 -- a call and what follows it
@@ -209,23 +210,6 @@ module _ (i : ℕ) {us : List ℕ} {cs ls : List ℤ} {x : ℕ} (s : Entered (i 
         where
           sums : (a b : ℕ) {a′ b′ : ℕ} → x ≡ a + b → a′ ≡ a + c → b′ ≡ b + line-losses c k → x + (c + line-losses c k) ≡ a′ + b′
           sums a b p q r = omega arith
-
--- ---- the number that a user's entry answers
-
-module _ (u n : ℕ) (us : List ℕ) where
-  pub refusal-2 : u ≡ 0 → 2 ≡ user-refusal u n us
-  refusal-2 e = rw (eq-eqb u 0 e)
-
-  module _ (e : u ≡ 0 → ⊥) where
-    pub refusal-4 : has u (take n us) ≡ true → 4 ≡ user-refusal u n us
-    refusal-4 f = rw (ne-eqb u 0 e, f)
-
-    module _ (f : has u (take n us) ≡ false) where
-      pub refusal-5 : USERS ≤ n → 5 ≡ user-refusal u n us
-      refusal-5 k = rw (ne-eqb u 0 e, f, le-leb USERS n k)
-
-      pub no-refusal : n < USERS → 0 ≡ user-refusal u n us
-      no-refusal k = rw (ne-eqb u 0 e, f, lt-leb USERS n k)
 
 -- what such a number tells
 data Told (u n : ℕ) (us : List ℕ) : ℕ → Type 0 where

@@ -18,10 +18,10 @@ use Rattle.line_cells.specs.Cell.{line-losses, past-limit, more, place}
 use Rattle.day_book.specs.Book.{Call, line}
 use Rattle.day_file.specs.Report.{refused, in-order}
 use Rattle.file_entry.specs.Entering.{entering, Entered, Unless-refused, Comes-to}
-use Rattle.file_entry.specs.declared.Entry.{Entry}
-use Rattle.file_entry.specs.declared.Entry.the-variants.{Refused, Offtake}
+use Rattle.file_lines.specs.declared.Entry.{Entry}
+use Rattle.file_lines.specs.declared.Entry.the-variants.{Refused, Offtake}
 use Rattle.file_entry.proofs.Entries.{line-out, line-past, line-added, line-entered}
-use Rattle.file_entry.proofs.LineEntries.{Line}
+use Rattle.file_lines.proofs.LineEntries.{Line}
 
 -- the calls lead from one point-day to another; the calls stop with a refusal
 abbrev pub Leads : List Call → (Measurement → PointDay) → (Measurement → PointDay) → Type 0

@@ -1,5 +1,4 @@
 pub mod Taking
 pub mod Entries
-pub mod LineEntries
 pub mod Leading
 pub mod SectionEntries

@@ -11,11 +11,12 @@ use Rattle.point_day.specs.Limits.{LAST-NUMBER}
 use Rattle.point_day.proofs.Back.{map-table}
 use Rattle.day_book.specs.Book.{Call, join}
 use Rattle.day_file.specs.File.{USER, LINE, u8, u16, u32, Section, pair-count, section-at, sections, user-of, line-count, line-at, section-calls}
-use Rattle.file_entry.specs.Entering.{entering, Entered, Unless-refused, Comes-to, user-refusal}
-use Rattle.file_entry.specs.declared.Entry.{Entry}
-use Rattle.file_entry.specs.declared.Entry.the-variants.{Refused, Offtake}
+use Rattle.file_entry.specs.Entering.{entering, Entered, Unless-refused, Comes-to}
+use Rattle.file_lines.specs.Pieces.{user-refusal}
+use Rattle.file_lines.specs.declared.Entry.{Entry}
+use Rattle.file_lines.specs.declared.Entry.the-variants.{Refused, Offtake}
 use Rattle.file_entry.proofs.Entries.{Joined, user-refused}
-use Rattle.file_entry.proofs.LineEntries.{Line}
+use Rattle.file_lines.proofs.LineEntries.{Line}
 use Rattle.file_entry.proofs.Leading.{Leads, Stops, leads-then, leads-stop, stops-there, table-rest, table-next, flat-next, flat-rest, line-comes}
 
 -- ---- the lines of a section

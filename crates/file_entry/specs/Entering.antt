@@ -1,27 +1,22 @@
 -- While a day file is entered: the point-day that lent arrays stand for, and what calls on it come to: the contracts of the functions
 -- that enter a line, a section and all sections. Assumes nothing.
 use mathlib.Core.Path.{_≡_}
-use mathlib.Core.Bool.{Bool, true, false, not}
+use mathlib.Core.Bool.{true, false}
 use mathlib.Core.List.{List, _++_}
 use Prim.Native.Nat.{ℕ, _+_}
 use lib.IntN.{ℤ, pos}
-use lib.Dec.{leb, eqb}
-use lib.ListN.{length, take, replicate}
-use Rattle.numbers.specs.Sums.{pick}
-use Rattle.numbers.specs.Lists.{both, has}
+use lib.ListN.{length, replicate}
 use Rattle.point_day.specs.Limits.{USERS, CELLS}
 use Rattle.point_day.specs.Day.{all-offtake, measurement-right}
-use Rattle.point_day.specs.Calls.{line-right}
 use Rattle.point_day.specs.Struct.{read, taken}
 use Rattle.point_day.specs.declared.Stage.the-variants.{Provisional}
 use Rattle.point_day.specs.declared.Measurement.{Measurement}
 use Rattle.point_day.specs.declared.Measurement.the-variants.{Unmeasured}
 use Rattle.point_day.specs.declared.PointDay.{PointDay}
-use Rattle.line_cells.specs.Cell.{line-losses, past-limit}
 use Rattle.day_book.specs.Book.{Call}
 use Rattle.day_file.specs.Report.{refused, in-order}
-use Rattle.file_entry.specs.declared.Entry.{Entry}
-use Rattle.file_entry.specs.declared.Entry.the-variants.{Refused, Offtake}
+use Rattle.file_lines.specs.declared.Entry.{Entry}
+use Rattle.file_lines.specs.declared.Entry.the-variants.{Refused, Offtake}
 
 -- the point-day of n users, their numbers, consumption and losses, with a measurement and nothing allotted yet
 unfoldable pub entering : ℕ → List ℕ → List ℤ → List ℤ → Measurement → PointDay
@@ -56,22 +51,6 @@ Comes-to (Refused k) calls before after = (day : ℕ) (m : Measurement) (rest : 
     → in-order day (calls ++ rest) (before m) ≡ refused k
 Comes-to (Offtake x) calls before after = (day : ℕ) (m : Measurement) (rest : List Call) → measurement-right m ≡ true
     → in-order day (calls ++ rest) (before m) ≡ in-order day rest (after m)
-
--- ---- a line, by its numbers
-
-abbrev pub line-entry : ℕ → ℕ → ℕ → ℕ → ℕ → Entry
-line-entry n kind c k offtake =
-    pick (line-right n kind c k) (pick (past-limit offtake c k) (Refused 6) (Offtake (offtake + (c + line-losses c k)))) (Refused 2)
-
--- the line is added
-abbrev pub is-added : ℕ → ℕ → ℕ → ℕ → ℕ → Bool
-is-added n kind c k offtake = both (line-right n kind c k) (not (past-limit offtake c k))
-
--- ---- a user, by the slots before
-
--- the number of the refusal, or 0
-abbrev pub user-refusal : ℕ → ℕ → List ℕ → ℕ
-user-refusal n slot us = pick (eqb n 0) 2 (pick (has n (take slot us)) 4 (pick (leb USERS slot) 5 0))
 
 -- ---- a measured point-day without users
 

@@ -1,6 +1,6 @@
 // A line at its cell: its ranges, the losses it adds, and the limit on consumption and losses.
 ghost use mathlib.Core.Path.{_≡_};
-ghost use Prim.Native.Nat.{_+_, _≤_, _<_};
+ghost use Prim.Native.Nat.{_≤_, _<_};
 ghost use Rattle.numbers.specs.Sums.{pick};
 ghost use Rattle.point_day.specs.Limits.{USERS, KINDS, CELLS, LIMIT, COEFFICIENT};
 ghost use Rattle.point_day.specs.Calls.{line-right};

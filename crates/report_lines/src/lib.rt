@@ -1,11 +1,11 @@
 // A line of a report: a word and five numbers; the line of a user.
 ghost use mathlib.Core.Path.{_≡_};
 ghost use mathlib.Core.List.{_∷_, []};
-ghost use Prim.Native.Nat.{_+_, _*_, _≤_, _<_};
+ghost use Prim.Native.Nat.{_+_, _≤_, _<_};
 ghost use lib.IntN.{pos};
 ghost use lib.ListN.{length};
 ghost use Rattle.numbers.specs.Amounts.{Within};
-ghost use Rattle.point_day.specs.Limits.{USERS, LAST-NUMBER, KINDS, CELLS};
+ghost use Rattle.point_day.specs.Limits.{USERS, LAST-NUMBER, CELLS};
 ghost use Rattle.state.specs.Places.{Small};
 ghost use Rattle.wire.specs.Text.{written};
 ghost use Rattle.day_file.specs.Text.{text-line};

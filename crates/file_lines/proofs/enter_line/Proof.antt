@@ -1,12 +1,12 @@
--- `file_entry::enter_line` meets its contract. Assumes nothing.
+-- `file_lines::enter_line` meets its contract. Assumes nothing.
 use mathlib.Core.Path.{sym, _∙_}
 use borrow.Author.Tests.{not-true, not-false}
 use Rattle.line_cells.proofs.Ranges.{ranges}
-use Rattle.file_entry.proofs.LineEntries.{out-of-range, past, small, added, as-read}
+use Rattle.file_lines.proofs.LineEntries.{out-of-range, past, small, added, as-read}
 use borrow.Author.Needs.{needs}
 use native.Mathlib.Omega.{arith}
-use Rattle.file_entry.proofs.enter_line.Statement.{statement}
-use Rattle.file_entry.proofs.enter_line.Tie as tie
+use Rattle.file_lines.proofs.enter_line.Statement.{statement}
+use Rattle.file_lines.proofs.enter_line.Tie as tie
 
 read-u8-requires : tie.Need-read-u8-requires
 read-u8-requires c κs = search needs

@@ -1,11 +1,11 @@
--- `file_entry::enter_user` meets its contract. Assumes nothing.
+-- `file_lines::enter_user` meets its contract. Assumes nothing.
 use mathlib.Core.Path.{refl}
 use Rattle.numbers.proofs.Lists.{scan-found}
-use Rattle.file_entry.proofs.Entries.{refusal-2, refusal-4, refusal-5, no-refusal}
+use Rattle.file_lines.proofs.UserEntries.{refusal-2, refusal-4, refusal-5, no-refusal}
 use borrow.Author.Needs.{needs}
 use native.Mathlib.Omega.{arith}
-use Rattle.file_entry.proofs.enter_user.Statement.{statement}
-use Rattle.file_entry.proofs.enter_user.Tie as tie
+use Rattle.file_lines.proofs.enter_user.Statement.{statement}
+use Rattle.file_lines.proofs.enter_user.Tie as tie
 
 returns : tie.Need-returns
 returns c = (refusal-2 (c .before .args .user) (c .before .args .slot) (c .before .args .users .now) (c .if1 .taken), refl)

@@ -12,9 +12,9 @@ use Rattle.point_day.specs.declared.LineAnswer.{LineAnswer}
 use Rattle.point_day.specs.declared.LineAnswer.the-variants as line
 use Rattle.line_cells.specs.Cell.{line-losses, past-limit, line-on, more, place}
 use Rattle.line_cells.proofs.Ranges.{ranges, losses-small}
-use Rattle.file_entry.specs.Entering.{line-entry, is-added}
-use Rattle.file_entry.specs.declared.Entry.{Entry}
-use Rattle.file_entry.specs.declared.Entry.the-variants.{Refused, Offtake}
+use Rattle.file_lines.specs.Pieces.{line-entry, is-added}
+use Rattle.file_lines.specs.declared.Entry.{Entry}
+use Rattle.file_lines.specs.declared.Entry.the-variants.{Refused, Offtake}
 
 -- a line at a slot: the answer, and the two arrays afterwards
 pub record Line (u slot kind c k x : ℕ) (cs ls : List ℤ) (r : Entry) (cs′ ls′ : List ℤ) : Type 0 where

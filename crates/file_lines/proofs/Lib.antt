@@ -1,0 +1,2 @@
+pub mod LineEntries
+pub mod UserEntries
