@@ -1,28 +1,22 @@
--- A day file's calls on a fresh point-day: measure, the sections, allot. Assumes nothing.
-use mathlib.Core.Path.{_≡_, refl, sym, ap, _∙_, subst}
+-- A day file's calls on a fresh point-day, and the report in a buffer. Assumes nothing.
+use mathlib.Core.Path.{_≡_, refl, sym, ap, _∙_}
 use mathlib.Core.Bool.{true, false}
 use mathlib.Core.List.{List, [], _∷_, _++_, map}
 use Prim.Native.Nat.{ℕ, _+_, _≤_, _<_}
 use native.Mathlib.Omega.{arith}
 use lib.Dec.{leb}
-use lib.IntN.{ℤ, pos}
+use lib.IntN.{pos}
 use lib.Seq.{take-at}
-use lib.ListN.{drop, length-append, length, replicate, length-replicate}
+use lib.ListN.{drop, length-append, length, length-replicate}
 use borrow.Author.Tests.{le-leb, lt-leb}
-use Rattle.numbers.specs.Sums.{pick, table, total}
-use Rattle.numbers.specs.Lists.{distinct, flat}
+use Rattle.numbers.specs.Sums.{pick}
+use Rattle.numbers.specs.Lists.{flat}
 use Rattle.point_day.specs.Limits.{USERS, CELLS}
-use Rattle.point_day.specs.Day.{Day, fresh, emission-right, measurement-right}
+use Rattle.point_day.specs.Day.{fresh, emission-right}
 use Rattle.point_day.specs.Calls as calls
-use Rattle.point_day.specs.Answers.{allot-answer}
-use Rattle.point_day.specs.Struct.{Sized, read, padded, laid, taken, outcome, called}
-use Rattle.point_day.specs.declared.Stage.the-variants.{Provisional}
+use Rattle.point_day.specs.Struct.{Sized, padded, laid, taken}
 use Rattle.point_day.specs.declared.Measurement.{Measurement}
 use Rattle.point_day.specs.declared.Measurement.the-variants.{Unmeasured, Measured}
-use Rattle.point_day.specs.declared.AllotAnswer.{AllotAnswer}
-use Rattle.point_day.specs.declared.AllotAnswer.the-variants.{Refused, Done}
-use Rattle.point_day.specs.declared.PointDay.{PointDay}
-use Rattle.point_day.proofs.Good.{bare-good, taken-good}
 use Rattle.calendar.specs.Days.{LAST-DAY}
 use Rattle.measurement.specs.Remeasured.{remeasured}
 use Rattle.measurement.proofs.Measures.{measure-2, measure-done}
@@ -30,61 +24,13 @@ use Rattle.day_book.specs.Book.{Call, measure, allot}
 use Rattle.day_file.specs.File.{gas-day, emission, downstream, sections, section-calls, well-formed, file-calls}
 use Rattle.io.specs.Counts.{Counts}
 use Rattle.wire.specs.Text.{written}
-use Rattle.day_file.specs.Report.{Report, refused, allotted, in-order, report}
+use Rattle.day_file.specs.Report.{refused, in-order, report}
 use Rattle.day_file.specs.Text.{text}
 use Rattle.refusal_text.specs.Room.{TEXT-ROOM}
-use Rattle.file_entry.specs.Entering.{entering, Entered, Comes-to, unjoined}
-use Rattle.file_lines.specs.declared.Entry.{Entry}
-use Rattle.file_lines.specs.declared.Entry.the-variants.{Refused as Stopped, Offtake}
-use Rattle.file_entry.proofs.Taking.{outcome-taken}
+use Rattle.file_entry.specs.Entering.{entering, unjoined}
 use Rattle.file_entry.proofs.Entries.{step}
-use Rattle.day_report.specs.Entered.{entered-and-allotted}
-
--- ---- a report in a buffer
-
--- a report's text stands in the buffer, and so many bytes it has
-abbrev pub Reported : List ℕ → Report → ℕ → List ℕ → Type 0
-Reported out t r o = (r ≡ length (text t)) × (o ≡ written out 0 (text t))
-
-pub reported : (out : List ℕ) {t u : Report} → t ≡ u → {r : ℕ} {o : List ℕ} → r ≡ length (text t) → o ≡ written out 0 (text t) → Reported out u r o
-reported out e p q = (p ∙ ap (λ t. length (text t)) e, q ∙ ap (λ t. written out 0 (text t)) e)
-
--- ---- allot
-
-module _ (p q : PointDay) (a : AllotAnswer) (h : outcome (allot-answer a) q ≡ called calls.allot p) where
-  pub allot-refused : (n : ℕ) → a ≡ Refused n → (g : ℕ) → refused n ≡ in-order g (allot ∷ []) p
-  allot-refused n e g = sym (step g allot [] p (ap (λ b. outcome (allot-answer b) q) (sym e) ∙ h))
-
-  pub allot-done : a ≡ Done → (g : ℕ) → allotted g (read q) ≡ in-order g (allot ∷ []) p
-  unfolding in-order
-  allot-done e g = sym (step g allot [] p (ap (λ b. outcome (allot-answer b) q) (sym e) ∙ h))
-
-  pub allot-taken : Sized p → taken p ≡ true → p .allotted ≡ false → taken q ≡ true
-  allot-taken z t e = outcome-taken p z t e allot h
-
--- ---- a measured point-day without users
-
-empty-day : Measurement → Day
-empty-day m = record { stage = Provisional; allotted = false; measurement = m; users = [] }
-
-unjoined-laid : (m : Measurement) → unjoined m ≡ laid (empty-day m)
-unfolding unjoined entering laid padded flat empty-day
-unjoined-laid m = refl
-
-unjoined-taken : (m : Measurement) → measurement-right m ≡ true → taken (unjoined m) ≡ true
-unfolding empty-day
-unjoined-taken m h =
-    ap taken (unjoined-laid m)
-    ∙ taken-good (empty-day m) (pos 0) (bare-good (empty-day m) (pos 0) refl (omega arith) (unfold distinct in refl) h tt tt (unfold total in omega arith))
-
-pub none-entered : Entered 0 (replicate USERS 0) (replicate CELLS (pos 0)) (replicate CELLS (pos 0)) 0
-none-entered = record {
-  users = length-replicate {A = ℕ} USERS 0;
-  consumption = length-replicate CELLS (pos 0);
-  losses = length-replicate CELLS (pos 0);
-  taken = λ m h. unfold unjoined in unjoined-taken m h;
-  sum = unfold read entering table total in refl;
-}
+use Rattle.file_allotment.specs.Entered.{entered-and-allotted}
+use Rattle.file_allotment.proofs.Allotting.{unjoined-taken}
 
 -- ---- measure
 
@@ -114,20 +60,6 @@ module _ (e w g : ℕ) (rest : List Call) where
   measure-leads : emission-right e w ≡ true → in-order g (measure e w ∷ rest) (laid fresh) ≡ in-order g rest (unjoined (Measured e w))
   unfolding laid fresh
   measure-leads r = step g (measure e w) rest (laid fresh) (measure-done e w (laid fresh) fresh-sized fresh-taken refl r (fresh-remeasured (Measured e w)))
-
--- ---- the sections
-
-module _ (f : List ℕ) (a : Entry) (n : ℕ) (us : List ℕ) (cs ls : List ℤ)
-    (k : Comes-to a (flat (map (section-calls f) (sections f))) (entering 0 (replicate USERS 0) (replicate CELLS (pos 0)) (replicate CELLS (pos 0))) (entering n us cs ls)) (m : Measurement) (r : measurement-right m ≡ true) where
-  comes-as : (b : Entry) → a ≡ b → Comes-to b (flat (map (section-calls f) (sections f))) unjoined (entering n us cs ls)
-  unfolding unjoined
-  comes-as b e = subst (λ b. Comes-to b (flat (map (section-calls f) (sections f))) unjoined (entering n us cs ls)) e k
-
-  pub sections-refuse : (x : ℕ) → a ≡ Stopped x → (g : ℕ) → refused x ≡ entered-and-allotted f g m
-  sections-refuse x e g = sym (comes-as (Stopped x) e g m (allot ∷ []) r)
-
-  pub sections-lead : (x : ℕ) → a ≡ Offtake x → (g : ℕ) → in-order g (allot ∷ []) (entering n us cs ls m) ≡ entered-and-allotted f g m
-  sections-lead x e g = sym (comes-as (Offtake x) e g m (allot ∷ []) r)
 
 -- ---- the whole file
 

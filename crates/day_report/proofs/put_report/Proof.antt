@@ -2,7 +2,8 @@
 use mathlib.Core.Path.{sym, _∙_}
 use borrow.Author.Tests.{not-true, not-false}
 use Rattle.day_file.proofs.WellFormed.{header-inside}
-use Rattle.day_report.proofs.Running.{reported, malformed, late-day, unmeasured, measured}
+use Rattle.file_allotment.proofs.Allotting.{reported}
+use Rattle.day_report.proofs.Running.{malformed, late-day, unmeasured, measured}
 use borrow.Author.Needs.{needs}
 use native.Mathlib.Omega.{arith}
 use Rattle.day_report.proofs.put_report.Statement.{statement}

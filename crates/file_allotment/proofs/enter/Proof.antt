@@ -1,13 +1,13 @@
--- `day_report::enter` meets its contract. Assumes nothing.
+-- `file_allotment::enter` meets its contract. Assumes nothing.
 use mathlib.Core.Path.{refl, subst}
 use Rattle.point_day.specs.declared.Measurement.the-variants.{Measured}
 use Rattle.day_file.proofs.WellFormed.{header-inside}
 use Rattle.file_entry.specs.Entering.{entering, Entered, Unless-refused}
-use Rattle.day_report.proofs.Running.{reported, none-entered, sections-refuse, sections-lead}
+use Rattle.file_allotment.proofs.Allotting.{reported, none-entered, sections-refuse, sections-lead}
 use borrow.Author.Needs.{needs}
 use native.Mathlib.Omega.{arith}
-use Rattle.day_report.proofs.enter.Statement.{statement}
-use Rattle.day_report.proofs.enter.Tie as tie
+use Rattle.file_allotment.proofs.enter.Statement.{statement}
+use Rattle.file_allotment.proofs.enter.Tie as tie
 
 read-u16-requires : tie.Need-read-u16-requires
 read-u16-requires c κs = omega (arith, header-inside (c .before .before .args .file .now) (c .before .before .pre .0))

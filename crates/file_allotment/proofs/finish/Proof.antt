@@ -1,9 +1,9 @@
--- `day_report::finish` meets its contract. Assumes nothing.
+-- `file_allotment::finish` meets its contract. Assumes nothing.
 use Rattle.point_day.specs.Struct.{Sized}
-use Rattle.day_report.proofs.Running.{reported, allot-refused, allot-done, allot-taken}
+use Rattle.file_allotment.proofs.Allotting.{reported, allot-refused, allot-done, allot-taken}
 use borrow.Author.Needs.{needs}
-use Rattle.day_report.proofs.finish.Statement.{statement}
-use Rattle.day_report.proofs.finish.Tie as tie
+use Rattle.file_allotment.proofs.finish.Statement.{statement}
+use Rattle.file_allotment.proofs.finish.Tie as tie
 
 allot-taken-requires : tie.Need-allot-taken-requires
 allot-taken-requires c κs = (c .before .pre .2, search needs)
