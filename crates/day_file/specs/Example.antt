@@ -16,7 +16,8 @@ use Rattle.point_day.specs.declared.Measurement.the-variants.{Measured}
 use Rattle.wire.specs.Bytes.{little-endian}
 use Rattle.wire.specs.Text.{digits-of, natural, decimal}
 use Rattle.day_book.specs.Book as book
-use Rattle.day_file.specs.File.{sorted, none-overlap, sections-right, well-formed, file-calls}
+use Rattle.file_form.specs.Form.{sorted, none-overlap, sections-right, well-formed}
+use Rattle.day_file.specs.File.{file-calls}
 use Rattle.day_file.specs.Report.{refused, allotted, in-order, report}
 use Rattle.day_file.specs.Text.{spaced, text}
 

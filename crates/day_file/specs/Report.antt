@@ -8,7 +8,8 @@ use Rattle.point_day.specs.Struct.{read, laid, called}
 use Rattle.point_day.specs.declared.PointDay.{PointDay}
 use Rattle.day_book.specs.Book.{Call, move, verdict-of}
 use Rattle.calendar.specs.Days.{is-gas-day}
-use Rattle.day_file.specs.File.{gas-day, well-formed, file-calls}
+use Rattle.file_form.specs.Form.{gas-day, well-formed}
+use Rattle.day_file.specs.File.{file-calls}
 
 -- the number of a refusal, or the gas day and the day allotted
 pub data Report : Type 0 where

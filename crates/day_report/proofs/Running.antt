@@ -21,7 +21,8 @@ use Rattle.calendar.specs.Days.{LAST-DAY}
 use Rattle.measurement.specs.Remeasured.{remeasured}
 use Rattle.measurement.proofs.Measures.{measure-2, measure-done}
 use Rattle.day_book.specs.Book.{Call, measure, allot}
-use Rattle.day_file.specs.File.{gas-day, emission, downstream, sections, section-calls, well-formed, file-calls}
+use Rattle.file_form.specs.Form.{gas-day, emission, downstream, sections, well-formed}
+use Rattle.day_file.specs.File.{section-calls, file-calls}
 use Rattle.io.specs.Counts.{Counts}
 use Rattle.wire.specs.Text.{written}
 use Rattle.day_file.specs.Report.{refused, in-order, report}

@@ -10,9 +10,9 @@ ghost use Rattle.day_file.specs.Text.{text};
 ghost use Rattle.refusal_text.specs.Room.{TEXT-ROOM};
 use calendar::LAST_DAY;
 use calendar::OUT_OF_RANGE;
-use day_file::DOWNSTREAM;
-use day_file::EMISSION;
-use day_file::GAS_DAY;
+use file_form::DOWNSTREAM;
+use file_form::EMISSION;
+use file_form::GAS_DAY;
 use report_text::TEXT_ROOM;
 
 // Row 13 of the table of refusals: a malformed day file.
@@ -24,7 +24,7 @@ fn put_report(file: &[u8], out: &mut [u8]) -> usize
     ensures { λ r. ⌜ r ≡ length (text (report (now (file .entry)))) ⌝ }
     ensures { λ r. ⌜ now (out .exit) ≡ written (now (out .entry)) 0 (text (report (now (file .entry)))) ⌝ }
 {
-    if !day_file::is_well_formed(file) {
+    if !file_form::is_well_formed(file) {
         return refusal_text::put_refused(out, MALFORMED);
     }
     let gas_day = wire::read_u32(file, GAS_DAY);

@@ -1,5 +1,5 @@
 // Reads a day file from standard input and prints its report.
-use day_file::MOST_BYTES;
+use file_form::MOST_BYTES;
 use libc::STDIN_FILENO;
 use libc::STDOUT_FILENO;
 use report_text::TEXT_ROOM;

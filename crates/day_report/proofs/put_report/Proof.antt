@@ -1,7 +1,7 @@
 -- `day_report::put_report` meets its contract. Assumes nothing.
 use mathlib.Core.Path.{sym, _∙_}
 use borrow.Author.Tests.{not-true, not-false}
-use Rattle.day_file.proofs.WellFormed.{header-inside}
+use Rattle.file_form.proofs.WellFormed.{header-inside}
 use Rattle.file_allotment.proofs.Allotting.{reported}
 use Rattle.day_report.proofs.Running.{malformed, late-day, unmeasured, measured}
 use borrow.Author.Needs.{needs}

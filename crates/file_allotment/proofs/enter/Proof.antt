@@ -1,7 +1,7 @@
 -- `file_allotment::enter` meets its contract. Assumes nothing.
 use mathlib.Core.Path.{refl, subst}
 use Rattle.point_day.specs.declared.Measurement.the-variants.{Measured}
-use Rattle.day_file.proofs.WellFormed.{header-inside}
+use Rattle.file_form.proofs.WellFormed.{header-inside}
 use Rattle.file_entry.specs.Entering.{entering, Entered, Unless-refused}
 use Rattle.file_allotment.proofs.Allotting.{reported, none-entered, sections-refuse, sections-lead}
 use borrow.Author.Needs.{needs}

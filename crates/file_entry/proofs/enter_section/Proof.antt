@@ -3,8 +3,9 @@ use mathlib.Core.Path.{_≡_, ap, _∙_, subst}
 use Prim.Native.Nat.{_≤_, _+_, _-_, _*_}
 use Rattle.numbers.specs.Sums.{table}
 use Rattle.file_entry.proofs.Leading.{Leads, stopped}
-use Rattle.day_file.specs.File.{u16, section-at, line-count, line-at, section-calls}
-use Rattle.day_file.proofs.WellFormed.{section-inside}
+use Rattle.file_form.specs.Form.{u16, section-at, line-count}
+use Rattle.day_file.specs.File.{line-at, section-calls}
+use Rattle.file_form.proofs.WellFormed.{section-inside}
 use Rattle.file_entry.specs.Entering.{entering, Entered}
 use Rattle.file_entry.proofs.Entries.{user-joined, few, sum-small, limited-consumption, limited-losses}
 use Rattle.file_entry.proofs.SectionEntries.{Lines, no-lines, one-more-line, lines-stop, user-stops, section-stops, section-leads}

@@ -3,7 +3,8 @@ use mathlib.Core.Path.{_≡_, subst}
 use Prim.Native.Nat.{_≤_, _-_}
 use mathlib.Core.List.{map}
 use Rattle.numbers.specs.Lists.{flat}
-use Rattle.day_file.specs.File.{sections, section-calls}
+use Rattle.file_form.specs.Form.{sections}
+use Rattle.day_file.specs.File.{section-calls}
 use Rattle.file_entry.specs.Entering.{entering, Entered}
 use Rattle.file_entry.proofs.Leading.{stopped}
 use Rattle.file_entry.proofs.SectionEntries.{Sections, no-sections, all-sections, one-more-section, sections-stop}

@@ -1,13 +1,13 @@
--- `day_file::are_sections` meets its contract: what the sections passed and those ahead tell is the same. Assumes nothing.
+-- `file_form::are_sections` meets its contract: what the sections passed and those ahead tell is the same. Assumes nothing.
 use Prim.Native.Nat.{_≤_, _-_, _+_, _*_}
 use mathlib.Core.Path.{_≡_, sym, ap, _∙_}
 use borrow.Author.Tests.{not-true, not-false}
-use Rattle.day_file.specs.File.{pairs-end}
-use Rattle.day_file.proofs.Sections.{Left, tells, none-left, too-early, not-whole, outside, goes-on}
+use Rattle.file_form.specs.Form.{pairs-end}
+use Rattle.file_form.proofs.Sections.{Left, tells, none-left, too-early, not-whole, outside, goes-on}
 use borrow.Author.Needs.{needs}
 use native.Mathlib.Omega.{arith}
-use Rattle.day_file.proofs.are_sections.Statement.{statement}
-use Rattle.day_file.proofs.are_sections.Tie as tie
+use Rattle.file_form.proofs.are_sections.Statement.{statement}
+use Rattle.file_form.proofs.are_sections.Tie as tie
 
 abbrev Inv-loop : tie.InvT-loop
 Inv-loop file count end₀ i₀ end i = (i ≤ count) × (Left file (pairs-end file) 0 ≡ Left file end i)

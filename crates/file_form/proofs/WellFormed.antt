@@ -9,9 +9,9 @@ use lib.ListN.{length}
 use borrow.Author.Tests.{le-leb, lt-leb, leb-true}
 use Rattle.numbers.specs.Lists.{both, every}
 use Rattle.numbers.proofs.Sums.{length-table, getD-table}
-use Rattle.numbers.proofs.Lists.{all-every, both-fst, both-snd}
-use Rattle.point_day.proofs.Each.{all-at}
-use Rattle.day_file.specs.File.{MOST-BYTES, HEADER, USER, Section, has-mark, pair-count, pairs-end, section-at, sections, end-of, is-whole, sorted, none-overlap, after-pairs, inside, sections-right, well-formed}
+use Rattle.numbers.proofs.Lists.{both-fst, both-snd}
+use Rattle.numbers.proofs.Places.{every-at}
+use Rattle.file_form.specs.Form.{MOST-BYTES, HEADER, USER, Section, has-mark, pair-count, pairs-end, section-at, sections, end-of, is-whole, sorted, none-overlap, after-pairs, inside, sections-right, well-formed}
 
 module _ (f : List ℕ) where
   pub too-long : MOST-BYTES < length f → false ≡ well-formed f
@@ -59,7 +59,7 @@ module _ (f : List ℕ) (w : well-formed f ≡ true) where
   each : (p : Section → Bool) → every p (sections f) ≡ true → (i : ℕ) → i < pair-count f → p (section-at f i) ≡ true
   each p e i l =
       ap p (sym (getD-table (section-at f) (pair-count f) i (section-at f i) l))
-      ∙ all-at (λ s. p s ≡ true) (section-at f i) (sections f) (all-every p (sections f) e) i (omega (arith, length-table (section-at f) (pair-count f)))
+      ∙ every-at p (section-at f i) (sections f) e i (omega (arith, length-table (section-at f) (pair-count f)))
 
   pub section-inside : (i : ℕ) → i < pair-count f → Inside f i
   unfolding sections-right

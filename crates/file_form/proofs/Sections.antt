@@ -12,7 +12,7 @@ use borrow.Author.Tests.{leb-true, le-leb, lt-leb}
 use Rattle.numbers.specs.Lists.{both, every}
 use Rattle.numbers.proofs.Sums.{length-table, getD-table}
 use Rattle.numbers.proofs.Lists.{All, all-every, every-all, all-map, all-map₂, both-fst, both-snd, both-true}
-use Rattle.day_file.specs.File.{Section, USER, LINE, pair-count, pairs-end, section-at, sections, end-of, is-whole, sorted, are-apart, none-overlap, sections-right}
+use Rattle.file_form.specs.Form.{Section, USER, LINE, pair-count, pairs-end, section-at, sections, end-of, is-whole, sorted, are-apart, none-overlap, sections-right}
 
 -- two tests that hold together are the same
 pub same-truth : (p q : Bool) → (p ≡ true → q ≡ true) → (q ≡ true → p ≡ true) → p ≡ q

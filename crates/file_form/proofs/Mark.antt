@@ -10,7 +10,7 @@ use lib.Seq.{drop-cons}
 use borrow.Author.Tests.{eq-eqb, ne-eqb}
 use Rattle.numbers.specs.Sums.{at}
 use Rattle.numbers.specs.Lists.{both}
-use Rattle.day_file.specs.File.{has-mark}
+use Rattle.file_form.specs.Form.{has-mark}
 
 -- the bytes ms stand in f from place i on
 unfoldable pub stands : List ℕ → ℕ → List ℕ → Bool

@@ -1,7 +1,7 @@
--- `day_file::is_whole` meets its contract. Assumes nothing.
+-- `file_form::is_whole` meets its contract. Assumes nothing.
 use borrow.Author.Tests.{lt-leb, le-leb}
-use Rattle.day_file.proofs.is_whole.Statement.{statement}
-use Rattle.day_file.proofs.is_whole.Tie as tie
+use Rattle.file_form.proofs.is_whole.Statement.{statement}
+use Rattle.file_form.proofs.is_whole.Tie as tie
 
 returns : tie.Need-returns
 returns c = rw (lt-leb _ _ (c .if1 .taken))

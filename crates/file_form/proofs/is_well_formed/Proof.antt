@@ -1,11 +1,11 @@
--- `day_file::is_well_formed` meets its contract, test by test. Assumes nothing.
+-- `file_form::is_well_formed` meets its contract, test by test. Assumes nothing.
 use mathlib.Core.Path.{sym, _∙_}
 use borrow.Author.Tests.{not-true, not-false}
-use Rattle.day_file.proofs.WellFormed.{too-long, too-short, unmarked, pairs-cut, by-sections}
+use Rattle.file_form.proofs.WellFormed.{too-long, too-short, unmarked, pairs-cut, by-sections}
 use borrow.Author.Needs.{needs}
 use native.Mathlib.Omega.{arith}
-use Rattle.day_file.proofs.is_well_formed.Statement.{statement}
-use Rattle.day_file.proofs.is_well_formed.Tie as tie
+use Rattle.file_form.proofs.is_well_formed.Statement.{statement}
+use Rattle.file_form.proofs.is_well_formed.Tie as tie
 
 returns : tie.Need-returns
 returns c = too-long (c .before .before .args .file .now) (c .if1 .taken)

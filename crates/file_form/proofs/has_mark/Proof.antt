@@ -1,12 +1,12 @@
--- `day_file::has_mark` meets its contract: what the bytes passed and those ahead tell is the same. Assumes nothing.
+-- `file_form::has_mark` meets its contract: what the bytes passed and those ahead tell is the same. Assumes nothing.
 use Prim.Native.Nat.{_≤_, _-_}
 use mathlib.Core.Path.{_≡_, sym, _∙_}
-use Rattle.day_file.specs.File.{has-mark}
-use Rattle.day_file.proofs.Mark.{Left, mark-stands, differs, agrees, none-left}
+use Rattle.file_form.specs.Form.{has-mark}
+use Rattle.file_form.proofs.Mark.{Left, mark-stands, differs, agrees, none-left}
 use borrow.Author.Needs.{needs}
 use native.Mathlib.Omega.{arith}
-use Rattle.day_file.proofs.has_mark.Statement.{statement}
-use Rattle.day_file.proofs.has_mark.Tie as tie
+use Rattle.file_form.proofs.has_mark.Statement.{statement}
+use Rattle.file_form.proofs.has_mark.Tie as tie
 
 abbrev Inv-loop : tie.InvT-loop
 Inv-loop file i₀ i = (i ≤ 4) × (has-mark file ≡ Left file i)
