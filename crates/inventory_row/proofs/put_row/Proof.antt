@@ -1,12 +1,12 @@
--- `inventory::put_row` meets its contract. Assumes nothing.
+-- `inventory_row::put_row` meets its contract. Assumes nothing.
 use mir.Syntax.{w64}
 use mir.Facts.{toZ-pos, toZ-ofZ}
-use Rattle.inventory.proofs.Rows.{five-stored}
+use Rattle.inventory_row.proofs.Place.{five-stored}
 use lib.ListN.{length-set}
 use native.Mathlib.Omega.{arith}
 use borrow.Author.Needs.{needs}
-use Rattle.inventory.proofs.put_row.Statement.{statement}
-use Rattle.inventory.proofs.put_row.Tie as tie
+use Rattle.inventory_row.proofs.put_row.Statement.{statement}
+use Rattle.inventory_row.proofs.put_row.Tie as tie
 
 cast-out : tie.Need-cast-out
 cast-out c = search needs

@@ -1,10 +1,10 @@
--- `inventory::one_if_row` meets its contract. Assumes nothing.
+-- `inventory_row::one_if_row` meets its contract. Assumes nothing.
 use mathlib.Core.Path.{sym, ap, _∙_}
 use Rattle.numbers.specs.Sums.{bit}
-use Rattle.inventory.proofs.Rows.{row-back}
+use Rattle.inventory_row.proofs.Place.{row-back}
 use borrow.Author.Needs.{needs}
-use Rattle.inventory.proofs.one_if_row.Statement.{statement}
-use Rattle.inventory.proofs.one_if_row.Tie as tie
+use Rattle.inventory_row.proofs.one_if_row.Statement.{statement}
+use Rattle.inventory_row.proofs.one_if_row.Tie as tie
 
 is-row-requires : tie.Need-is-row-requires
 is-row-requires c κs = search needs

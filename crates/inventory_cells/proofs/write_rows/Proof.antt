@@ -1,14 +1,14 @@
--- `inventory::write_rows` meets its contract. Assumes nothing.
+-- `inventory_cells::write_rows` meets its contract. Assumes nothing.
 use Prim.Native.Nat.{_-_, _≤_}
 use mir.Syntax.{w64}
 use mir.Val.{SFits}
 use mir.Facts.{toZ-ofZ}
 use Rattle.numbers.specs.Sums.{atZ}
-use Rattle.inventory.proofs.Rows.{So-far, none-written, row-fits, more-written, all-written}
+use Rattle.inventory_cells.proofs.Rows.{So-far, none-written, row-fits, more-written, all-written}
 use borrow.Author.Needs.{needs}
 use native.Mathlib.Omega.{arith}
-use Rattle.inventory.proofs.write_rows.Statement.{statement}
-use Rattle.inventory.proofs.write_rows.Tie as tie
+use Rattle.inventory_cells.proofs.write_rows.Statement.{statement}
+use Rattle.inventory_cells.proofs.write_rows.Tie as tie
 
 abbrev Inv-loop : tie.InvT-loop
 Inv-loop users consumption losses balance n out₀ place₀ i₀ out place i = (i ≤ n) × So-far users consumption losses balance out₀ i place out

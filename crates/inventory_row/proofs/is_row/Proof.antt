@@ -1,10 +1,10 @@
--- `inventory::is_row` meets its contract: an amount that is not 0 makes a row. Assumes nothing.
+-- `inventory_row::is_row` meets its contract: an amount that is not 0 makes a row. Assumes nothing.
 use mathlib.Core.Path.{sym, _∙_}
 use borrow.Author.Tests.{not-true, not-false}
-use Rattle.inventory.proofs.Rows.{zero-is, by-consumption, by-losses, by-balance}
+use Rattle.inventory_row.proofs.Place.{zero-is, by-consumption, by-losses, by-balance}
 use borrow.Author.Needs.{needs}
-use Rattle.inventory.proofs.is_row.Statement.{statement}
-use Rattle.inventory.proofs.is_row.Tie as tie
+use Rattle.inventory_row.proofs.is_row.Statement.{statement}
+use Rattle.inventory_row.proofs.is_row.Tie as tie
 
 is-zero-requires : tie.Need-is-zero-requires
 is-zero-requires c κs = search needs

@@ -1,4 +1,4 @@
--- `inventory::count_rows` meets its contract. Assumes nothing.
+-- `inventory_cells::count_rows` meets its contract. Assumes nothing.
 use mathlib.Core.Path.{_≡_, ap, _∙_}
 use Prim.Native.Nat.{_-_, _≤_}
 use mir.Syntax.{w64}
@@ -6,12 +6,13 @@ use mir.Val.{SFits}
 use mir.Facts.{toZ-ofZ}
 use Rattle.numbers.specs.Sums.{atZ}
 use Rattle.numbers.proofs.Sums.{bit-one}
-use Rattle.inventory.specs.Cells.{is-row, row-count}
-use Rattle.inventory.proofs.Rows.{count-none, count-more}
+use Rattle.inventory_row.specs.Row.{is-row}
+use Rattle.inventory_cells.specs.Cells.{row-count}
+use Rattle.inventory_cells.proofs.Rows.{count-none, count-more}
 use borrow.Author.Needs.{needs}
 use native.Mathlib.Omega.{arith}
-use Rattle.inventory.proofs.count_rows.Statement.{statement}
-use Rattle.inventory.proofs.count_rows.Tie as tie
+use Rattle.inventory_cells.proofs.count_rows.Statement.{statement}
+use Rattle.inventory_cells.proofs.count_rows.Tie as tie
 
 abbrev Inv-loop : tie.InvT-loop
 Inv-loop consumption losses balance n count₀ i₀ count i = (i ≤ n) × (count ≡ row-count consumption losses balance i) × (count ≤ i)

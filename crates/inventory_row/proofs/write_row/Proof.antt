@@ -1,12 +1,12 @@
--- `inventory::write_row` meets its contract. Assumes nothing.
+-- `inventory_row::write_row` meets its contract. Assumes nothing.
 use mathlib.Core.Path.{sym, _∙_}
 use borrow.Author.Tests.{not-true, not-false}
 use mir.Facts.{toZ-ofZ}
-use Rattle.inventory.proofs.Rows.{row-back, put-none, put-some}
+use Rattle.inventory_row.proofs.Place.{row-back, put-none, put-some}
 use native.Mathlib.Omega.{arith}
 use borrow.Author.Needs.{needs}
-use Rattle.inventory.proofs.write_row.Statement.{statement}
-use Rattle.inventory.proofs.write_row.Tie as tie
+use Rattle.inventory_row.proofs.write_row.Statement.{statement}
+use Rattle.inventory_row.proofs.write_row.Tie as tie
 
 is-row-requires : tie.Need-is-row-requires
 is-row-requires c κs = search needs
