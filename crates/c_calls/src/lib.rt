@@ -5,7 +5,7 @@ ghost use lib.ListN.{length, set, replicate};
 ghost use Rattle.point_day.specs.Limits.{USERS, ROWS, TOLERANCE};
 ghost use Rattle.point_day.specs.Calls.{join, line, measure, allot, revise, start-final};
 ghost use Rattle.point_day.specs.Struct.{read, called};
-ghost use Rattle.stand_in.specs.Openings.{rows};
+ghost use Rattle.stand_in_rows.specs.Rows.{rows};
 ghost use Rattle.inventory.specs.Inventory.{Afterwards};
 ghost use Rattle.plain_day.specs.Layout.{LENGTH, day-in};
 ghost use Rattle.c_calls.specs.Plain.{plain, plain-call, plain-fresh, rows-laid-out, plain-stand-in};
