@@ -53,7 +53,7 @@ fn append(day: PointDay, user: u16) -> PointDay
 pub fn join(day: PointDay, user: u16) -> JoinResult
     ensures { λ r. ⌜ outcome (join-answer (r .answer)) (r .day) ≡ called (join user) day ⌝ }
 {
-    if !state::is_taken(day) {
+    if !taken::is_taken(day) {
         return join_refused(2, day);
     }
     if day.allotted {
@@ -187,7 +187,7 @@ fn line_at(
 pub fn line(day: PointDay, user: u16, kind: u8, consumption: u64, coefficient: u64) -> LineResult
     ensures { λ r. ⌜ outcome (line-answer (r .answer)) (r .day) ≡ called (line user kind consumption coefficient) day ⌝ }
 {
-    if !state::is_taken(day) {
+    if !taken::is_taken(day) {
         return line_refused(2, day);
     }
     if day.allotted {
@@ -239,7 +239,7 @@ fn remeasure(day: PointDay, emission: u64, downstream: u64) -> PointDay
 pub fn measure(day: PointDay, emission: u64, downstream: u64) -> MeasureResult
     ensures { λ r. ⌜ outcome (measure-answer (r .answer)) (r .day) ≡ called (measure emission downstream) day ⌝ }
 {
-    if !state::is_taken(day) {
+    if !taken::is_taken(day) {
         return measure_refused(2, day);
     }
     let stage = day.stage;

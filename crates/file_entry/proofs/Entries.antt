@@ -29,7 +29,7 @@ use Rattle.state.specs.Places.{Placed}
 use Rattle.state.proofs.Totals.{offtake-is}
 use Rattle.numbers.proofs.Places.{every-at}
 use Rattle.state.proofs.Cells.{low-from}
-use Rattle.state.proofs.Facts.{Facts, facts}
+use Rattle.taken.proofs.Facts.{Facts, facts}
 use Rattle.entry.specs.Writes.{line-losses, past-limit, more, place, Limited, with-cells, lined-at}
 use Rattle.entry.proofs.Padding.{map-set}
 use Rattle.entry.proofs.Joins.{join-2, join-4, join-5, join-done}

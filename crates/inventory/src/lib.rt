@@ -23,7 +23,7 @@ pub fn inventory(day: PointDay, out: &mut [i64]) -> InventoryAnswer
     ensures { λ r. ⌜ answer-of r ≡ inventory day (now (out .entry)) ⌝ }
     ensures { λ r. ⌜ Afterwards (inventory day (now (out .entry))) (read day) (now (out .entry)) (now (out .exit)) ⌝ }
 {
-    if !state::is_taken(day) {
+    if !taken::is_taken(day) {
         return InventoryAnswer::Refused(NOT_TAKEN);
     }
     if !day.allotted {

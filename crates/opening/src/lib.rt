@@ -131,7 +131,7 @@ pub fn use_row<'a>(
     }
     let shares = share_column(net, row_users, row_amounts);
     let next = opened(day, row_users, shares);
-    if state::any_too_large(next) {
+    if taken::any_too_large(next) {
         return refuse(12, day);
     }
     StandInResult {

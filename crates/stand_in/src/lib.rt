@@ -14,7 +14,7 @@ use point_day::TOLERANCE;
 pub fn stand_in(day: PointDay, rows: StandInRows) -> StandInResult
     ensures { λ r. ⌜ outcome (stand-in-answer (r .answer)) (r .day) ≡ called (stand-in TOLERANCE (rows-of rows)) day ⌝ }
 {
-    if !state::is_taken(day) {
+    if !taken::is_taken(day) {
         return opening::refuse(2, day);
     }
     let stage = day.stage;
