@@ -1,11 +1,11 @@
--- `plain_day::size_at` meets its contract. Assumes nothing.
+-- `numbers_to_day::size_at` meets its contract. Assumes nothing.
 use mir.Syntax.{w64}
 use mir.Val.{SFits}
 use mir.Facts.{toZ-ofZ}
 use Rattle.numbers.specs.Sums.{atZ}
 use borrow.Author.Needs.{needs}
-use Rattle.plain_day.proofs.size_at.Statement.{statement}
-use Rattle.plain_day.proofs.size_at.Tie as tie
+use Rattle.numbers_to_day.proofs.size_at.Statement.{statement}
+use Rattle.numbers_to_day.proofs.size_at.Tie as tie
 
 mul-magnitude : tie.Need-mul-magnitude
 mul-magnitude c = search needs

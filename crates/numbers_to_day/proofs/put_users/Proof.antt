@@ -1,4 +1,4 @@
--- `plain_day::put_users` meets its contract: the first i numbers are written. Assumes nothing.
+-- `numbers_to_day::put_users` meets its contract: the first i numbers are written. Assumes nothing.
 use mathlib.Core.Path.{_≡_, ap, _∙_}
 use Prim.Native.Nat.{_-_, _≤_}
 use native.Mathlib.Omega.{arith}
@@ -10,11 +10,11 @@ use mir.Facts.{toZ-ofZ}
 use Rattle.numbers.specs.Sums.{atZ, table}
 use Rattle.numbers.proofs.Filled.{Filled, fill-none, fill-step, fill-all}
 use Rattle.numbers.proofs.Places.{every-at}
 use Rattle.plain_day.specs.Layout.{LAST-NUMBER, up-to}
 use Rattle.plain_day.proofs.Lists.{table-map}
 use borrow.Author.Needs.{needs}
-use Rattle.plain_day.proofs.put_users.Statement.{statement}
-use Rattle.plain_day.proofs.put_users.Tie as tie
+use Rattle.numbers_to_day.proofs.put_users.Statement.{statement}
+use Rattle.numbers_to_day.proofs.put_users.Tie as tie
 
 abbrev Inv-loop : tie.InvT-loop
 Inv-loop users₀ xs i₀ users i = (i ≤ length xs) × Filled (λ k. natAbs (atZ xs k)) users₀ i users

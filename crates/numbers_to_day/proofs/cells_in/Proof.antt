@@ -1,10 +1,10 @@
--- `plain_day::cells_in` meets its contract. Assumes nothing.
+-- `numbers_to_day::cells_in` meets its contract. Assumes nothing.
 use Rattle.plain_day.proofs.Lists.{put-all}
 use mathlib.Core.Path.{_≡_, _∙_}
 use lib.ListN.{length}
 use borrow.Author.Needs.{needs}
-use Rattle.plain_day.proofs.cells_in.Statement.{statement}
-use Rattle.plain_day.proofs.cells_in.Tie as tie
+use Rattle.numbers_to_day.proofs.cells_in.Statement.{statement}
+use Rattle.numbers_to_day.proofs.cells_in.Tie as tie
 
 no-cells-requires : tie.Need-no-cells-requires
 no-cells-requires c κs = search needs

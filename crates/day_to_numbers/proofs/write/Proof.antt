@@ -1,4 +1,4 @@
--- `plain_day::write` meets its contract: the parts are put in one after the other. Assumes nothing.
+-- `day_to_numbers::write` meets its contract: the parts are put in one after the other. Assumes nothing.
 use mathlib.Core.Path.{_≡_, refl, ap, ap₂, _∙_}
 use mathlib.Core.List.{_++_}
 use Prim.Native.Nat.{_+_}
@@ -7,11 +7,11 @@ use lib.IntN.{pos}
 use lib.ListN.{length, length-map}
 use mir.Facts.{toZ-ofZ}
 use Rattle.point_day.specs.Struct.{Sized}
 use Rattle.plain_day.specs.Layout.{numbers-of, head}
 use Rattle.plain_day.proofs.Lists.{front-none, front-more, front-all}
 use borrow.Author.Needs.{needs}
-use Rattle.plain_day.proofs.write.Statement.{statement}
-use Rattle.plain_day.proofs.write.Tie as tie
+use Rattle.day_to_numbers.proofs.write.Statement.{statement}
+use Rattle.day_to_numbers.proofs.write.Tie as tie
 
 head-requires : tie.Need-head-requires
 head-requires c κs = search needs

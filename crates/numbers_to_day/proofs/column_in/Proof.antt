@@ -1,10 +1,10 @@
--- `plain_day::column_in` meets its contract. Assumes nothing.
+-- `numbers_to_day::column_in` meets its contract. Assumes nothing.
 use Rattle.plain_day.proofs.Lists.{put-all}
 use mathlib.Core.Path.{_≡_, _∙_}
 use lib.ListN.{length}
 use borrow.Author.Needs.{needs}
-use Rattle.plain_day.proofs.column_in.Statement.{statement}
-use Rattle.plain_day.proofs.column_in.Tie as tie
+use Rattle.numbers_to_day.proofs.column_in.Statement.{statement}
+use Rattle.numbers_to_day.proofs.column_in.Tie as tie
 
 no-amounts-requires : tie.Need-no-amounts-requires
 no-amounts-requires c κs = search needs

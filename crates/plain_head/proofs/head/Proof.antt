@@ -1,4 +1,4 @@
--- `plain_day::head` meets its contract. Assumes nothing.
+-- `plain_head::head` meets its contract. Assumes nothing.
 use mathlib.Core.Path.{_≡_, ap, _∙_}
 use mathlib.Core.List.{_∷_, map}
 use mir.Syntax.{w64}
@@ -7,10 +7,10 @@ use mir.Facts.{toZ-ofZ}
 use Rattle.numbers.specs.Sums.{bit}
 use Rattle.wire.specs.Bytes.{signed-64}
 use Rattle.point_day.specs.Day.{is-measured}
 use Rattle.plain_day.specs.Layout.{head, stage-number, emission-number, downstream-number}
 use borrow.Author.Needs.{needs}
-use Rattle.plain_day.proofs.head.Statement.{statement}
-use Rattle.plain_day.proofs.head.Tie as tie
+use Rattle.plain_head.proofs.head.Statement.{statement}
+use Rattle.plain_head.proofs.head.Tie as tie
 
 stage-number-requires : tie.Need-stage-number-requires
 stage-number-requires c κs = search needs

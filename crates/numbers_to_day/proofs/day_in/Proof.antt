@@ -1,8 +1,8 @@
--- `plain_day::day_in` meets its contract. Assumes nothing.
+-- `numbers_to_day::day_in` meets its contract. Assumes nothing.
 use Rattle.plain_day.specs.Layout.{day-in}
 use borrow.Author.Needs.{needs}
-use Rattle.plain_day.proofs.day_in.Statement.{statement}
-use Rattle.plain_day.proofs.day_in.Tie as tie
+use Rattle.numbers_to_day.proofs.day_in.Statement.{statement}
+use Rattle.numbers_to_day.proofs.day_in.Tie as tie
 
 size-at-requires : tie.Need-size-at-requires
 size-at-requires c κs = search needs

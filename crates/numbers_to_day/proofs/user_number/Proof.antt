@@ -1,11 +1,11 @@
--- `plain_day::user_number` meets its contract. Assumes nothing.
+-- `numbers_to_day::user_number` meets its contract. Assumes nothing.
 use native.Mathlib.Omega.{arith}
 use mir.Facts.{toZ-ofZ}
 use Rattle.plain_day.specs.Layout.{LAST-NUMBER}
 use Rattle.plain_day.proofs.Ranges.{up-to-le}
 use borrow.Author.Needs.{needs}
-use Rattle.plain_day.proofs.user_number.Statement.{statement}
-use Rattle.plain_day.proofs.user_number.Tie as tie
+use Rattle.numbers_to_day.proofs.user_number.Statement.{statement}
+use Rattle.numbers_to_day.proofs.user_number.Tie as tie
 
 magnitude-requires : tie.Need-magnitude-requires
 magnitude-requires c κs = search needs

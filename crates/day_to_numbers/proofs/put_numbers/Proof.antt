@@ -1,4 +1,4 @@
--- `plain_day::put_numbers` meets its contract: the first i numbers are written. Assumes nothing.
+-- `day_to_numbers::put_numbers` meets its contract: the first i numbers are written. Assumes nothing.
 use mathlib.Core.Path.{_≡_, ap, _∙_}
 use Prim.Native.Nat.{_-_, _≤_}
 use native.Mathlib.Omega.{arith}
@@ -9,10 +9,10 @@ use mir.Val.{SFits}
 use mir.Facts.{toZ-ofZ}
 use Rattle.numbers.specs.Sums.{at, table}
 use Rattle.numbers.proofs.Filled.{Filled, fill-none, fill-step, fill-all}
 use Rattle.plain_day.proofs.Lists.{table-map}
 use borrow.Author.Needs.{needs}
-use Rattle.plain_day.proofs.put_numbers.Statement.{statement}
-use Rattle.plain_day.proofs.put_numbers.Tie as tie
+use Rattle.day_to_numbers.proofs.put_numbers.Statement.{statement}
+use Rattle.day_to_numbers.proofs.put_numbers.Tie as tie
 
 abbrev Inv-loop : tie.InvT-loop
 Inv-loop out₀ users i₀ out i = (i ≤ length users) × Filled (λ k. pos (at users k)) out₀ i out

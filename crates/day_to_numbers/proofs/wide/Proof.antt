@@ -1,10 +1,10 @@
--- `plain_day::wide` meets its contract. Assumes nothing.
+-- `day_to_numbers::wide` meets its contract. Assumes nothing.
 use native.Mathlib.Omega.{arith}
 use mir.Syntax.{w64}
 use mir.Facts.{toZ-pos}
 use borrow.Author.Needs.{needs}
-use Rattle.plain_day.proofs.wide.Statement.{statement}
-use Rattle.plain_day.proofs.wide.Tie as tie
+use Rattle.day_to_numbers.proofs.wide.Statement.{statement}
+use Rattle.day_to_numbers.proofs.wide.Tie as tie
 
 cast-result : tie.Need-cast-result
 cast-result c = search needs

@@ -1,7 +1,7 @@
--- `plain_day::stage_of` meets its contract. Assumes nothing.
+-- `numbers_to_day::stage_of` meets its contract. Assumes nothing.
 use borrow.Author.Tests.{eq-eqb, ne-eqb}
-use Rattle.plain_day.proofs.stage_of.Statement.{statement}
-use Rattle.plain_day.proofs.stage_of.Tie as tie
+use Rattle.numbers_to_day.proofs.stage_of.Statement.{statement}
+use Rattle.numbers_to_day.proofs.stage_of.Tie as tie
 
 returns : tie.Need-returns
 returns c = rw (eq-eqb (c .before .args .number) 0 (c .if1 .taken))
