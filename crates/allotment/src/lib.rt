@@ -49,7 +49,7 @@ pub fn allot_taken(day: PointDay) -> AllotResult
     let net = emission - downstream;
     let balance = balance::balance_cells(net, &day.consumption, &day.losses, &day.users, n);
     let next = put_balances(day, balance);
-    if state::any_too_large(next) {
+    if taken::any_too_large(next) {
         return refuse(12, day);
     }
     AllotResult {
@@ -62,7 +62,7 @@ pub fn allot_taken(day: PointDay) -> AllotResult
 pub fn allot(day: PointDay) -> AllotResult
     ensures { λ r. ⌜ outcome (allot-answer (r .answer)) (r .day) ≡ called allot day ⌝ }
 {
-    if !state::is_taken(day) {
+    if !taken::is_taken(day) {
         return refuse(2, day);
     }
     allot_taken(day)

@@ -13,7 +13,7 @@ use Rattle.point_day.specs.Limits.{USERS, ROWS, TOLERANCE}
 use Rattle.point_day.specs.Calls.{Answer, stand-in}
 use Rattle.point_day.specs.Struct.{Outcome, outcome, called, rows-of}
 use Rattle.point_day.specs.declared.PointDay.{PointDay}
-use Rattle.stand_in.specs.Openings.{rows}
+use Rattle.stand_in_rows.specs.Rows.{rows}
 use Rattle.plain_day.specs.Layout.{is-laid-out, day-in}
 use Rattle.c_calls.specs.Plain.{plain, given, plain-call, rows-laid-out, plain-stand-in}
 

@@ -13,7 +13,7 @@ use Rattle.point_day.specs.Calls.{Answer, refused, done, losses-added, rows-loo
 use Rattle.point_day.specs.Day.{fresh}
 use Rattle.point_day.specs.Struct.{Outcome, called, laid, rows-of}
 use Rattle.point_day.specs.declared.PointDay.{PointDay}
-use Rattle.stand_in.specs.Openings.{rows}
+use Rattle.stand_in_rows.specs.Rows.{rows}
 use Rattle.plain_day.specs.Layout.{LENGTH, is-laid-out, day-in, numbers-of}
 
 -- what a call gives back: 0 or the number of the refusal, and the numbers afterwards

@@ -5,7 +5,7 @@ ghost use lib.ListN.{length, set, replicate};
 ghost use Rattle.point_day.specs.Limits.{USERS, ROWS, TOLERANCE};
 ghost use Rattle.point_day.specs.Calls.{join, line, measure, allot, revise, start-final};
 ghost use Rattle.point_day.specs.Struct.{read, called};
-ghost use Rattle.stand_in.specs.Openings.{rows};
+ghost use Rattle.stand_in_rows.specs.Rows.{rows};
 ghost use Rattle.inventory.specs.Inventory.{Afterwards};
 ghost use Rattle.plain_day.specs.Layout.{LENGTH, day-in};
 ghost use Rattle.c_calls.specs.Plain.{plain, plain-call, plain-fresh, rows-laid-out, plain-stand-in};
@@ -109,7 +109,7 @@ pub extern "C" fn seatpomelo_fresh(day: &mut [i64]) -> u8
     if day.len() != LENGTH {
         return OUT_OF_RANGE;
     }
-    plain_day::write(day, 0, point_day::fresh_day())
+    day_to_numbers::write(day, 0, point_day::fresh_day())
 }
 
 // Join.
@@ -120,12 +120,12 @@ pub extern "C" fn seatpomelo_join(day: &mut [i64], user: u16) -> u8
     if !plain_day::is_laid_out(day) {
         return OUT_OF_RANGE;
     }
-    let r = entry::join(plain_day::day_in(day), user);
+    let r = entry::join(numbers_to_day::day_in(day), user);
     let answer = r.answer;
     let after = r.day;
     match answer {
         JoinAnswer::Refused(number) => number,
-        JoinAnswer::Done => plain_day::write(day, 0, after),
+        JoinAnswer::Done => day_to_numbers::write(day, 0, after),
     }
 }
 
@@ -143,12 +143,18 @@ pub extern "C" fn seatpomelo_line(
     if !plain_day::is_laid_out(day) {
         return OUT_OF_RANGE;
     }
-    let r = lines::line(plain_day::day_in(day), user, kind, consumption, coefficient);
+    let r = lines::line(
+        numbers_to_day::day_in(day),
+        user,
+        kind,
+        consumption,
+        coefficient,
+    );
     let answer = r.answer;
     let after = r.day;
     match answer {
         LineAnswer::Refused(number) => number,
-        LineAnswer::LossesAdded(added) => plain_day::write(day, wire::to_signed(added), after),
+        LineAnswer::LossesAdded(added) => day_to_numbers::write(day, wire::to_signed(added), after),
     }
 }
 
@@ -160,12 +166,12 @@ pub extern "C" fn seatpomelo_measure(day: &mut [i64], emission: u64, downstream:
     if !plain_day::is_laid_out(day) {
         return OUT_OF_RANGE;
     }
-    let r = measurement::measure(plain_day::day_in(day), emission, downstream);
+    let r = measurement::measure(numbers_to_day::day_in(day), emission, downstream);
     let answer = r.answer;
     let after = r.day;
     match answer {
         MeasureAnswer::Refused(number) => number,
-        MeasureAnswer::Done => plain_day::write(day, 0, after),
+        MeasureAnswer::Done => day_to_numbers::write(day, 0, after),
     }
 }
 
@@ -177,12 +183,12 @@ pub extern "C" fn seatpomelo_allot(day: &mut [i64]) -> u8
     if !plain_day::is_laid_out(day) {
         return OUT_OF_RANGE;
     }
-    let r = allotment::allot(plain_day::day_in(day));
+    let r = allotment::allot(numbers_to_day::day_in(day));
     let answer = r.answer;
     let after = r.day;
     match answer {
         AllotAnswer::Refused(number) => number,
-        AllotAnswer::Done => plain_day::write(day, 0, after),
+        AllotAnswer::Done => day_to_numbers::write(day, 0, after),
     }
 }
 
@@ -194,13 +200,13 @@ pub extern "C" fn seatpomelo_revise(day: &mut [i64]) -> u8
     if !plain_day::is_laid_out(day) {
         return OUT_OF_RANGE;
     }
-    let r = revision::revise(plain_day::day_in(day));
+    let r = revision::revise(numbers_to_day::day_in(day));
     let answer = r.answer;
     let after = r.day;
     match answer {
         ReviseAnswer::Refused(number) => number,
-        ReviseAnswer::WithinTolerance(amount) => plain_day::write(day, amount, after),
-        ReviseAnswer::Assigned(amount) => plain_day::write(day, amount, after),
+        ReviseAnswer::WithinTolerance(amount) => day_to_numbers::write(day, amount, after),
+        ReviseAnswer::Assigned(amount) => day_to_numbers::write(day, amount, after),
     }
 }
 
@@ -212,12 +218,12 @@ pub extern "C" fn seatpomelo_start_final(day: &mut [i64]) -> u8
     if !plain_day::is_laid_out(day) {
         return OUT_OF_RANGE;
     }
-    let r = final_stage::start_final(plain_day::day_in(day));
+    let r = final_stage::start_final(numbers_to_day::day_in(day));
     let answer = r.answer;
     let after = r.day;
     match answer {
         StartFinalAnswer::Refused(number) => number,
-        StartFinalAnswer::Done => plain_day::write(day, 0, after),
+        StartFinalAnswer::Done => day_to_numbers::write(day, 0, after),
     }
 }
 
@@ -238,12 +244,12 @@ pub extern "C" fn seatpomelo_stand_in(
         return OUT_OF_RANGE;
     }
     let rows = rows_in(counts, users, amounts);
-    let r = stand_in::stand_in(plain_day::day_in(day), rows);
+    let r = stand_in::stand_in(numbers_to_day::day_in(day), rows);
     let answer = r.answer;
     let after = r.day;
     match answer {
         StandInAnswer::Refused(number) => number,
-        StandInAnswer::RowsLookedAt(seen) => plain_day::write(
+        StandInAnswer::RowsLookedAt(seen) => day_to_numbers::write(
             day,
             wire::to_signed(seen as u64),
             after,
@@ -271,7 +277,7 @@ pub extern "C" fn seatpomelo_inventory(day: &mut [i64], out: &mut [i64]) -> u8
     if !plain_day::is_laid_out(day) {
         return OUT_OF_RANGE;
     }
-    let answer = inventory::inventory(plain_day::day_in(day), out);
+    let answer = inventory::inventory(numbers_to_day::day_in(day), out);
     match answer {
         InventoryAnswer::Refused(number) => number,
         InventoryAnswer::Rows(count) => write_value(day, wire::to_signed(count as u64)),

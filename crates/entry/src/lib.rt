@@ -1,3 +1,4 @@
+// Join: a user enters the point-day.
 ghost use mathlib.Core.Path.{_≡_};
 ghost use Prim.Native.Nat.{_<_};
 ghost use Rattle.point_day.specs.Limits.{USERS};
@@ -9,8 +10,6 @@ use point_day::JoinAnswer;
 use point_day::JoinResult;
 use point_day::PointDay;
 use point_day::USERS;
-
-// ---- Join
 
 fn join_refused(number: u8, day: PointDay) -> JoinResult
     ensures { λ r. ⌜ outcome (join-answer (r .answer)) (r .day) ≡ outcome (refused number) day ⌝ }
@@ -37,7 +36,7 @@ fn append(day: PointDay, user: u16) -> PointDay
 pub fn join(day: PointDay, user: u16) -> JoinResult
     ensures { λ r. ⌜ outcome (join-answer (r .answer)) (r .day) ≡ called (join user) day ⌝ }
 {
-    if !state::is_taken(day) {
+    if !taken::is_taken(day) {
         return join_refused(2, day);
     }
     if day.allotted {
@@ -59,7 +58,3 @@ pub fn join(day: PointDay, user: u16) -> JoinResult
         day: next,
     }
 }
-
-// ---- Line
-
-// ---- Measure

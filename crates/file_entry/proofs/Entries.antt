@@ -29,7 +29,7 @@ use Rattle.state.specs.Places.{Placed}
 use Rattle.state.proofs.Totals.{offtake-is}
 use Rattle.numbers.proofs.Places.{every-at}
 use Rattle.state.proofs.Cells.{low-from}
-use Rattle.state.proofs.Facts.{Facts, facts}
+use Rattle.taken.proofs.Facts.{Facts, facts}
 use Rattle.line_cells.specs.Cell.{line-losses, past-limit, more, place, Limited}
 use Rattle.lines.specs.Lined.{with-cells, lined-at}
 use Rattle.point_day.proofs.Padding.{map-set}

@@ -75,7 +75,7 @@ fn restart(day: PointDay) -> PointDay
 pub fn start_final(day: PointDay) -> StartFinalResult
     ensures { λ r. ⌜ outcome (start-final-answer (r .answer)) (r .day) ≡ called start-final day ⌝ }
 {
-    if !state::is_taken(day) {
+    if !taken::is_taken(day) {
         return refuse(2, day);
     }
     let stage = day.stage;

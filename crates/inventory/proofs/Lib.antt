@@ -1,4 +1,3 @@
-pub mod Rows
 pub mod Listing
 pub mod Outcomes
 pub mod Laws

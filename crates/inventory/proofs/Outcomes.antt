@@ -17,8 +17,9 @@ use Rattle.point_day.specs.Struct.{read, none-below, taken}
 use Rattle.point_day.specs.declared.PointDay.{PointDay}
 use Rattle.point_day.proofs.Taken.{taken-facts}
 use Rattle.point_day.proofs.Called.{test-holds, test-passed, none-left}
-use Rattle.inventory.specs.Inventory.{ROW, five, rows, Answer, refused, written, tests, by, inventory, Reordered, none, keep, Afterwards}
-use Rattle.inventory.specs.Cells.{cells, row-count}
+use Rattle.inventory_row.specs.Row.{ROW}
+use Rattle.inventory_cells.specs.Cells.{cells, row-count}
+use Rattle.inventory.specs.Inventory.{five, rows, Answer, refused, written, tests, by, inventory, Reordered, none, keep, Afterwards}
 use Rattle.inventory.proofs.Listing.{listed, listed-count}
 
 -- a list is an order of its own

@@ -15,6 +15,7 @@ use Rattle.point_day.specs.Struct.{read, taken}
 use Rattle.point_day.specs.declared.PointDay.{PointDay}
 use Rattle.point_day.specs.declared.Stage.the-variants.{Provisional}
 use Rattle.point_day.specs.declared.Measurement.the-variants.{Measured}
+use Rattle.inventory_row.specs.Row.{ROW}
 use Rattle.inventory.specs.declared.InventoryAnswer.{InventoryAnswer}
 use Rattle.inventory.specs.declared.InventoryAnswer.the-variants.{Refused, Rows}
 
@@ -27,9 +28,6 @@ pub record Row : Type 0 where
   pub consumption : ℕ
   pub losses : ℕ
   pub balance : ℤ
-
-abbrev pub ROW : ℕ
-ROW = 5
 
 abbrev pub five : Row → List ℤ
 five r = pos (r .user) ∷ pos (r .kind) ∷ pos (r .consumption) ∷ pos (r .losses) ∷ r .balance ∷ []

@@ -1,3 +1,2 @@
 pub mod Inventory
 pub mod Laws
-pub mod Cells

@@ -63,7 +63,7 @@ fn line_at(
 pub fn line(day: PointDay, user: u16, kind: u8, consumption: u64, coefficient: u64) -> LineResult
     ensures { λ r. ⌜ outcome (line-answer (r .answer)) (r .day) ≡ called (line user kind consumption coefficient) day ⌝ }
 {
-    if !state::is_taken(day) {
+    if !taken::is_taken(day) {
         return line_refused(2, day);
     }
     if day.allotted {

@@ -46,7 +46,7 @@ fn remeasure(day: PointDay, emission: u64, downstream: u64) -> PointDay
 pub fn measure(day: PointDay, emission: u64, downstream: u64) -> MeasureResult
     ensures { λ r. ⌜ outcome (measure-answer (r .answer)) (r .day) ≡ called (measure emission downstream) day ⌝ }
 {
-    if !state::is_taken(day) {
+    if !taken::is_taken(day) {
         return measure_refused(2, day);
     }
     let stage = day.stage;

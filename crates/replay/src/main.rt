@@ -236,7 +236,7 @@ fn print_users(day: PointDay) {
 }
 
 fn print_day(day: PointDay) {
-    if !state::is_taken(day) {
+    if !taken::is_taken(day) {
         output::refused(2);
         return;
     }

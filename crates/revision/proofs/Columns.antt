@@ -26,7 +26,7 @@ use Rattle.point_day.proofs.Each.{map-of-all, some-length}
 use Rattle.point_day.proofs.Sound.{net-pos, net-small}
 use Rattle.point_day.proofs.Wholes.{shares-size, assigned-long}
 use Rattle.state.proofs.Cells.{between-size, within-from}
-use Rattle.state.proofs.Facts.{facts, laid-day}
+use Rattle.taken.proofs.Facts.{facts, laid-day}
 use Rattle.state.proofs.Totals.{whole-is}
 use Rattle.state.specs.Places.{Laid, whole-at}
 use Rattle.columns.proofs.Padding.{table-by, all-within, padded-over, padded-long, padded-start, padded-total, padded-within}

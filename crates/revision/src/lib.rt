@@ -118,7 +118,7 @@ fn assign(day: PointDay, amount: i64, column: [i64; USERS]) -> ReviseResult
     let before = day.revision;
     let revision = added(before, shares);
     let next = with_revision(day, revision);
-    if state::any_too_large(next) {
+    if taken::any_too_large(next) {
         return refuse(12, day);
     }
     ReviseResult {
@@ -131,7 +131,7 @@ fn assign(day: PointDay, amount: i64, column: [i64; USERS]) -> ReviseResult
 pub fn revise(day: PointDay) -> ReviseResult
     ensures { λ r. ⌜ outcome (revise-answer (r .answer)) (r .day) ≡ called (revise TOLERANCE) day ⌝ }
 {
-    if !state::is_taken(day) {
+    if !taken::is_taken(day) {
         return refuse(2, day);
     }
     let stage = day.stage;

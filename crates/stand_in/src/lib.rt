@@ -1,243 +1,40 @@
+// Stand-in: net of a point-day without lines, over the users of the nearest earlier day with any pair.
 ghost use mathlib.Core.Path.{_≡_};
-ghost use mathlib.Core.Bool.{true, false, not};
-ghost use mathlib.Core.List.{map, _++_};
-ghost use Prim.Native.Nat.{ℕ, _*_, _≤_, _<_};
-ghost use lib.Dec.{eqb};
-ghost use lib.IntN.{pos, natAbs};
-ghost use lib.ListN.{length, drop, replicate};
-ghost use Rattle.numbers.specs.Sums.{atZ};
-ghost use Rattle.numbers.specs.Lists.{both, every, rising};
-ghost use Rattle.numbers.specs.Amounts.{Within};
-ghost use Rattle.proration.specs.Proration.{prorateZ};
-ghost use Rattle.point_day.specs.Limits.{USERS, ROWS, LIMIT, AMOUNT, TOLERANCE};
-ghost use Rattle.point_day.specs.Day.{provisional, no-more, is-number};
-ghost use Rattle.point_day.specs.Calls.{refused, row-right, stand-in};
+ghost use Rattle.point_day.specs.Limits.{TOLERANCE};
+ghost use Rattle.point_day.specs.Calls.{stand-in};
 ghost use Rattle.point_day.specs.Answers.{stand-in-answer};
-ghost use Rattle.point_day.specs.Struct.{padded, rows-of, outcome, called};
-ghost use Rattle.stand_in.specs.Openings.{rows, Nearest, Usable, opened-with};
-use point_day::AMOUNT;
-use point_day::CELLS;
-use point_day::PAIRS;
+ghost use Rattle.point_day.specs.Struct.{rows-of, outcome, called};
 use point_day::PointDay;
 use point_day::ROWS;
-use point_day::Stage;
-use point_day::StandInAnswer;
 use point_day::StandInResult;
 use point_day::StandInRows;
 use point_day::TOLERANCE;
-use point_day::USERS;
-
-fn refuse(number: u8, day: PointDay) -> StandInResult
-    ensures { λ r. ⌜ outcome (stand-in-answer (r .answer)) (r .day) ≡ outcome (refused number) day ⌝ }
-{
-    StandInResult {
-        answer: StandInAnswer::Refused(number),
-        day: day,
-    }
-}
-
-// Whether the stage is provisional entering, and no user has joined.
-fn is_open(stage: Stage, allotted: bool, count: usize) -> bool
-    ensures { λ r. ⌜ r ≡ both (provisional stage) (both (not allotted) (eqb count 0)) ⌝ }
-{
-    if !state::is_provisional(stage) {
-        return false;
-    }
-    if allotted {
-        return false;
-    }
-    count == 0
-}
-
-// ---- The rows
-
-// Whether the numbers of a row are user numbers, each above the one before.
-fn numbers_right(users: &[u16]) -> bool
-    ensures { λ r. ⌜ r ≡ both (every is-number (now (users .entry))) (rising (now (users .entry))) ⌝ }
-{
-    let mut last = 0;
-    let mut i = 0;
-    while i < users.len() {
-        let user = users[i];
-        if user <= last {
-            return false;
-        }
-        last = user;
-        i += 1;
-    }
-    true
-}
-
-// Whether a row is in its range.
-fn row_right(users: &[u16], amounts: &[i64]) -> bool
-    ensures { λ r. ⌜ r ≡ both (both (every is-number (now (users .entry))) (rising (now (users .entry)))) (every (no-more AMOUNT) (now (amounts .entry))) ⌝ }
-{
-    if !numbers_right(users) {
-        return false;
-    }
-    columns::all_limited(amounts)
-}
-
-// Whether each of the rows is.
-fn rows_right<'a>(
-    counts: &'a [usize; ROWS],
-    users: &'a [u16; PAIRS],
-    amounts: &'a [i64; PAIRS],
-) -> bool
-    ensures { λ r. ⌜ r ≡ every row-right (rows-of (rows (now (counts .entry)) (now (users .entry)) (now (amounts .entry)))) ⌝ }
-{
-    let all_users = &users[..];
-    let all_amounts = &amounts[..];
-    let mut i = 0;
-    while i < ROWS {
-        let n = counts[i];
-        if USERS < n {
-            return false;
-        }
-        let from = USERS * i;
-        let to = from + n;
-        if !row_right(&all_users[from..to], &all_amounts[from..to]) {
-            return false;
-        }
-        i += 1;
-    }
-    true
-}
-
-// The nearest row with any pair, from 0; so many as there are if none has.
-fn nearest_filled(counts: &[usize; ROWS]) -> usize
-    ensures { λ r. ⌜ Nearest (now (counts .entry)) r ⌝ }
-{
-    let mut row = 0;
-    while row < ROWS {
-        if counts[row] != 0 {
-            return row;
-        }
-        row += 1;
-    }
-    row
-}
-
-// ---- Opening a day with a list
-
-// No users. (A call, so that no proof above sees its elements one by one.)
-fn no_users() -> [u16; USERS]
-    ensures { λ r. ⌜ r ≡ replicate USERS 0 ⌝ }
-{
-    [0; USERS]
-}
-
-// User numbers written over the start of a column.
-fn put_users(users: &[u16], column: &mut [u16])
-    requires { ⌜ length (now users) ≤ length (now column) ⌝ }
-    ensures { λ _. ⌜ now (column .exit) ≡ now (users .entry) ++ drop (length (now (users .entry))) (now (column .entry)) ⌝ }
-{
-    let mut i = 0;
-    while i < users.len() {
-        column[i] = users[i];
-        i += 1;
-    }
-}
-
-// User numbers, and zeros past them.
-fn user_column(users: &[u16]) -> [u16; USERS]
-    requires { ⌜ length (now users) ≤ USERS ⌝ }
-    ensures { λ r. ⌜ r ≡ padded USERS 0 (now (users .entry)) ⌝ }
-{
-    let mut column = no_users();
-    put_users(users, &mut column);
-    column
-}
-
-// Shares of an amount, prorated over users by the sizes of these amounts, and zeros past them.
-fn share_column(amount: u64, users: &[u16], amounts: &[i64]) -> [i64; USERS]
-    requires { ⌜ (amount ≤ LIMIT) × (0 < length (now users)) × (length (now users) ≤ USERS) × (length (now amounts) ≡ length (now users)) ⌝ }
-    requires { ⌜ ((i : ℕ) → Within AMOUNT (atZ (now amounts) i)) ⌝ }
-    ensures { λ r. ⌜ r ≡ padded USERS (pos 0) (prorateZ (pos amount) (map natAbs (now (amounts .entry))) (now (users .entry))) ⌝ }
-{
-    let mut shares = state::no_amounts();
-    columns::share_out(amount as i64, users, amounts, &mut shares);
-    shares
-}
-
-// Opening a day with a list: its users join, with shares as their revisions, and the stage is allotted.
-pub fn opened(day: PointDay, users: &[u16], shares: [i64; USERS]) -> PointDay
-    requires { ⌜ length (now users) ≤ USERS ⌝ }
-    ensures { λ r. ⌜ r ≡ opened-with (now (users .entry)) shares day ⌝ }
-{
-    let count = users.len();
-    let column = user_column(users);
-    PointDay {
-        allotted: true,
-        count: count,
-        users: column,
-        consumption: [0; CELLS],
-        losses: [0; CELLS],
-        balance: [0; CELLS],
-        revision: shares,
-        ..day
-    }
-}
-
-// ---- Stand-in
-
-// A row used: net prorated over its users by its amounts.
-fn use_row<'a>(
-    day: PointDay,
-    net: u64,
-    row: usize,
-    counts: &'a [usize; ROWS],
-    users: &'a [u16; PAIRS],
-    amounts: &'a [i64; PAIRS],
-) -> StandInResult
-    requires { ⌜ Usable day (rows (now counts) (now users) (now amounts)) net row ⌝ }
-    ensures { λ r. ⌜ outcome (stand-in-answer (r .answer)) (r .day) ≡ called (stand-in TOLERANCE (rows-of (rows (now (counts .entry)) (now (users .entry)) (now (amounts .entry))))) day ⌝ }
-{
-    let all_users = &users[..];
-    let all_amounts = &amounts[..];
-    let from = USERS * row;
-    let to = from + counts[row];
-    let row_users = &all_users[from..to];
-    let row_amounts = &all_amounts[from..to];
-    if columns::any_negative(row_amounts) {
-        return refuse(11, day);
-    }
-    let shares = share_column(net, row_users, row_amounts);
-    let next = opened(day, row_users, shares);
-    if state::any_too_large(next) {
-        return refuse(12, day);
-    }
-    StandInResult {
-        answer: StandInAnswer::RowsLookedAt(row + 1),
-        day: next,
-    }
-}
 
 // Stand-in: the users of the nearest row with any pair join, and net is prorated over them.
 pub fn stand_in(day: PointDay, rows: StandInRows) -> StandInResult
     ensures { λ r. ⌜ outcome (stand-in-answer (r .answer)) (r .day) ≡ called (stand-in TOLERANCE (rows-of rows)) day ⌝ }
 {
-    if !state::is_taken(day) {
-        return refuse(2, day);
+    if !taken::is_taken(day) {
+        return opening::refuse(2, day);
     }
     let stage = day.stage;
-    if !is_open(stage, day.allotted, day.count) {
-        return refuse(1, day);
+    if !opening::is_open(stage, day.allotted, day.count) {
+        return opening::refuse(1, day);
     }
-    if !rows_right(&rows.counts, &rows.users, &rows.amounts) {
-        return refuse(2, day);
+    if !stand_in_rows::rows_right(&rows.counts, &rows.users, &rows.amounts) {
+        return opening::refuse(2, day);
     }
     let measurement = day.measurement;
     if !state::is_measured(measurement) {
-        return refuse(7, day);
+        return opening::refuse(7, day);
     }
     let net = state::net(measurement);
     if net <= TOLERANCE {
-        return refuse(9, day);
+        return opening::refuse(9, day);
     }
-    let row = nearest_filled(&rows.counts);
+    let row = stand_in_rows::nearest_filled(&rows.counts);
     if row == ROWS {
-        return refuse(10, day);
+        return opening::refuse(10, day);
     }
-    use_row(day, net, row, &rows.counts, &rows.users, &rows.amounts)
+    opening::use_row(day, net, row, &rows.counts, &rows.users, &rows.amounts)
 }

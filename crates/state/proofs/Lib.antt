@@ -2,4 +2,3 @@ pub mod Ranges
 pub mod Numbers
 pub mod Cells
 pub mod Totals
-pub mod Facts

@@ -1,22 +1,16 @@
--- What the tests of a point-day look at, place by place: the contracts of the functions below `is_taken`. Assumes nothing.
-use mathlib.Core.Bool.{Bool, true, false}
+-- What the calls look at, place by place. Assumes nothing.
+use mathlib.Core.Bool.{true, false}
 use mathlib.Core.List.{List}
 use mathlib.Core.Path.{_≡_}
 use Prim.Native.Nat.{ℕ, _+_, _*_, _≤_, _<_}
-use lib.IntN.{ℤ, pos, negℤ, natAbs, _+ℤ_}
+use lib.IntN.{ℤ, _+ℤ_}
 use lib.ListN.{length, take, getD}
 use Rattle.numbers.specs.Sums.{sumZ, atZ}
 use Rattle.numbers.specs.Lists.{has}
 use Rattle.numbers.specs.Amounts.{Within, Between}
-use Rattle.point_day.specs.Limits.{KINDS, USERS, LIMIT, AMOUNT}
-use Rattle.point_day.specs.Day.{is-measured}
+use Rattle.point_day.specs.Limits.{KINDS, USERS}
 use Rattle.point_day.specs.Struct.{none-below}
-use Rattle.point_day.specs.declared.Measurement.{Measurement}
 use Rattle.point_day.specs.declared.PointDay.{PointDay}
-
--- user numbers are sorted into so many buckets by their remainder, to find one that stands twice
-abbrev pub BUCKETS : ℕ
-BUCKETS = 1024
 
 -- r is the slot of user n among the first `count` numbers, or `count`
 pub record Placed (n count : ℕ) (users : List ℕ) (r : ℕ) : Type 0 where
@@ -27,18 +21,6 @@ pub record Placed (n count : ℕ) (users : List ℕ) (r : ℕ) : Type 0 where
 -- every amount from place n on lies in low .. high
 abbrev pub From : ℕ → ℤ → ℤ → List ℤ → Type 0
 From n low high xs = (i : ℕ) → n ≤ i → i < length xs → Between low high (atZ xs i)
-
--- every amount in low .. high, and 0 from place n on
-pub record Cells (low high : ℤ) (n : ℕ) (xs : List ℤ) : Type 0 where
-  pub range : From 0 low high xs
-  pub rest : From n (pos 0) (pos 0) xs
-
--- the four arrays of n users
-pub record Arrays (n : ℕ) (cs ls bs rs : List ℤ) : Type 0 where
-  pub consumption : Cells (pos 0) (pos LIMIT) (KINDS * n) cs
-  pub losses : Cells (pos 0) (pos LIMIT) (KINDS * n) ls
-  pub balance : Cells (negℤ (pos AMOUNT)) (pos AMOUNT) (KINDS * n) bs
-  pub revision : Cells (negℤ (pos AMOUNT)) (pos AMOUNT) n rs
 
 -- amounts of which a whole amount, and the sum of 64 of them, fit well into 64 bits
 abbrev pub ROOM : ℕ
@@ -63,13 +45,3 @@ cellZ cs ls bs i = (atZ cs i +ℤ atZ ls i) +ℤ atZ bs i
 
 abbrev pub whole-at : List ℤ → List ℤ → List ℤ → List ℤ → ℕ → ℤ
 whole-at cs ls bs rs s = sumZ (λ k. cellZ cs ls bs (KINDS * s + k)) KINDS +ℤ atZ rs s
-
--- each of n whole amounts, and their sum
-pub record Wholes (n : ℕ) (f : ℕ → ℤ) : Type 0 where
-  pub each : (s : ℕ) → s < n → natAbs (f s) ≤ AMOUNT
-  pub sum : Between (pos 0) (pos LIMIT) (sumZ f n)
-
--- "allotted without user or measurement"; "balance or revision while entering"
-abbrev pub Stands : Bool → ℕ → Measurement → List ℤ → List ℤ → Type 0
-Stands true n m bs rs = (n ≡ 0 → ⊥) × (is-measured m ≡ true)
-Stands false n m bs rs = From 0 (pos 0) (pos 0) bs × From 0 (pos 0) (pos 0) rs

@@ -1,7 +1,7 @@
 -- `allotment::allot_taken` meets its contract, outcome by outcome. Assumes nothing.
 use mathlib.Core.Path.{sym, _∙_}
 use Rattle.point_day.proofs.Taken.{taken-facts}
-use Rattle.state.proofs.Facts.{facts}
+use Rattle.taken.proofs.Facts.{facts}
 use Rattle.allotment.proofs.Outcomes.{net-known, metered-day, next-is, next-laid, too-large-next, users-are, allot-1, allot-7, allot-8, allot-12, allot-done}
 use borrow.Author.Needs.{needs}
 use native.Mathlib.Omega.{arith}

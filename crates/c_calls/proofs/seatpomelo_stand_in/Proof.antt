@@ -9,7 +9,7 @@ use Rattle.point_day.specs.Limits.{TOLERANCE}
 use Rattle.point_day.specs.Calls.{refused, rows-looked-at, stand-in}
 use Rattle.point_day.specs.Answers.{stand-in-answer}
 use Rattle.point_day.specs.Struct.{outcome, called, rows-of}
-use Rattle.stand_in.specs.Openings.{rows}
+use Rattle.stand_in_rows.specs.Rows.{rows}
 use Rattle.plain_day.specs.Layout.{is-laid-out, numbers-of}
 use Rattle.c_calls.specs.Plain.{plain, rows-laid-out}
 use Rattle.plain_day.proofs.Ranges.{laid-length, laid-users}

@@ -6,7 +6,7 @@ use borrow.Author.Needs.{needs}
 use borrow.Author.Tests.{not-true, not-false, lt-ltb, le-ltb}
 use Rattle.point_day.specs.Struct.{taken}
 use Rattle.point_day.proofs.Called.{called-untaken}
-use Rattle.state.proofs.Facts.{facts}
+use Rattle.taken.proofs.Facts.{facts}
 use Rattle.state.proofs.Numbers.{before-is}
 use Rattle.entry.proofs.Joins.{join-1, join-2, join-4, join-5, join-done}
 use Rattle.entry.proofs.join.Statement.{statement}

@@ -3,7 +3,7 @@ use mathlib.Core.Path.{sym, _∙_}
 use Prim.Native.Nat.{_*_}
 use borrow.Author.Tests.{not-true, not-false}
 use Rattle.point_day.specs.Limits.{KINDS}
-use Rattle.inventory.proofs.Rows.{count-le}
+use Rattle.inventory_cells.proofs.Rows.{count-le}
 use Rattle.inventory.proofs.Outcomes.{not-taken, not-allotted, cells-few, short, all-written}
 use native.Mathlib.Omega.{arith}
 use borrow.Author.Needs.{needs}

@@ -8,7 +8,7 @@ use borrow.Author.Tests.{not-true, not-false}
 use Rattle.numbers.specs.Sums.{sum}
 use Rattle.point_day.specs.Struct.{taken, read}
 use Rattle.point_day.proofs.Called.{called-untaken}
-use Rattle.state.proofs.Facts.{facts}
+use Rattle.taken.proofs.Facts.{facts}
 use Rattle.line_cells.proofs.Ranges.{ranges}
 use Rattle.lines.proofs.Lining.{line-1, line-2, line-3, line-done}
 use Rattle.point_day.specs.Limits.{LIMIT}

@@ -1,7 +1,7 @@
 -- `report_text::put_allotted` meets its contract. Assumes nothing.
 use mathlib.Core.Path.{ap, _∙_}
 use Rattle.point_day.proofs.Taken.{taken-facts}
-use Rattle.state.proofs.Facts.{facts, laid-day}
+use Rattle.taken.proofs.Facts.{facts, laid-day}
 use Rattle.refusal_text.proofs.Writing.{put-first, put-more, put-as}
 use Rattle.report_text.proofs.Figures.{allotted-text}
 use Rattle.report_lines.proofs.Sizes.{start-within, wrapped, line-as}

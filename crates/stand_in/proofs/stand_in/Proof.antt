@@ -7,8 +7,8 @@ use Rattle.point_day.specs.Limits.{TOLERANCE}
 use Rattle.point_day.specs.Struct.{taken}
 use Rattle.point_day.proofs.Called.{called-untaken}
 use Rattle.point_day.proofs.Taken.{taken-facts}
-use Rattle.stand_in.proofs.Rows.{none-filled}
-use Rattle.stand_in.proofs.Standing.{stand-in-1, stand-in-2, stand-in-7, stand-in-9, stand-in-10}
+use Rattle.stand_in_rows.proofs.Rows.{none-filled}
+use Rattle.opening.proofs.Standing.{stand-in-1, stand-in-2, stand-in-7, stand-in-9, stand-in-10}
 use borrow.Author.Needs.{needs}
 use Rattle.stand_in.proofs.stand_in.Statement.{statement}
 use Rattle.stand_in.proofs.stand_in.Tie as tie

@@ -1,0 +1,13 @@
+-- `numbers_to_day::measurement_of` meets its contract. Assumes nothing.
+use borrow.Author.Tests.{eq-eqb, ne-eqb}
+use Rattle.numbers_to_day.proofs.measurement_of.Statement.{statement}
+use Rattle.numbers_to_day.proofs.measurement_of.Tie as tie
+
+returns : tie.Need-returns
+returns c = rw (eq-eqb (c .before .args .measured) 0 (c .if1 .taken))
+
+returns-2 : tie.Need-returns-2
+returns-2 c = rw (ne-eqb (c .before .args .measured) 0 (c .if1 .left))
+
+pub measurement-of-spec : {M : Type 1} → statement M
+measurement-of-spec = tie.close (tie.spec returns returns-2)

@@ -1,0 +1,215 @@
+-- Stand-in: each outcome of the call. Assumes nothing.
+use mathlib.Core.Path.{_≡_, refl, sym, ap, ap₂, _∙_}
+use mathlib.Core.Bool.{Bool, true, false, not}
+use mathlib.Core.List.{List, [], _∷_, map}
+use Prim.Native.Nat.{ℕ, suc, _+_, _-_, _*_, _≤_, _<_}
+use native.Mathlib.Omega.{arith}
+use lib.Dec.{leb, eqb}
+use lib.IntN.{ℤ, pos, natAbs}
+use lib.ListN.{length, getD, take, drop, length-map}
+use borrow.Author.Tests.{leb-true, ne-eqb}
+use Rattle.numbers.specs.Sums.{atZ}
+use Rattle.numbers.specs.Lists.{both, either, every, rising}
+use Rattle.numbers.specs.Amounts.{Within}
+use Rattle.numbers.proofs.Sums.{length-table}
+use Rattle.numbers.proofs.Lists.{all-every, all-map, both-snd}
+use Rattle.proration.specs.Proration.{prorateZ}
+use Rattle.point_day.specs.Limits.{USERS, ROWS, LIMIT, AMOUNT, TOLERANCE}
+use Rattle.point_day.specs.Day.{is-measured, net, net-of, some, no-more, is-number, too-large, provisional}
+use Rattle.point_day.specs.Calls.{Answer, refused, rows-looked-at, Test, Verdict, verdict, _when_, Pair, users-of, amounts-of, row-right, nearest-filled, negative, at-most, opened, stand-in, allotted-with}
+use Rattle.point_day.specs.Struct.{Sized, read, padded, laid, taken, pair-at, row-at, rows-of, outcome, called}
+use Rattle.point_day.specs.declared.PointDay.{PointDay}
+use Rattle.point_day.specs.declared.StandInRows.{StandInRows}
+use Rattle.point_day.proofs.Taken.{taken-facts}
+use Rattle.point_day.proofs.Back.{read-count}
+use Rattle.point_day.proofs.Each.{some-length}
+use Rattle.point_day.proofs.Called.{called-refused, called-accepted, test-holds, test-passed, none-left}
+use Rattle.point_day.proofs.Settling.{Row, row-is, row-used as right-used}
+use Rattle.point_day.proofs.Sound.{net-small}
+use Rattle.state.specs.Places.{Laid}
+use Rattle.columns.proofs.Padding.{all-within}
+use Rattle.stand_in_rows.specs.Rows.{Nearest}
+use Rattle.stand_in_rows.proofs.Rows.{row-users, row-amounts, rows-long, row-used, rows-passed, row-filled}
+use Rattle.opening.specs.Openings.{Usable, opened-with}
+use Rattle.opening.proofs.Opening.{laid-opened, read-opened, summable}
+
+some-is : {A : Type 0} (xs : List A) → some xs ≡ not (eqb (length xs) 0)
+some-is [] = refl
+some-is (x ∷ xs) = sym (ap not (ne-eqb (suc (length xs)) 0 (λ e. omega arith)))
+
+module _ (d : PointDay) (z : Sized d) (ok : taken d ≡ true) (rs : StandInRows) where
+  -- ---- the tests, in the code's words
+
+  stage-test : either (not (provisional (d .stage))) (either (d .allotted) (some (read d .users))) ≡ not (both (provisional (d .stage)) (both (not (d .allotted)) (eqb (d .count) 0)))
+  stage-test =
+      ap (λ b. either (not (provisional (d .stage))) (either (d .allotted) b)) (some-is (read d .users) ∙ ap (λ k. not (eqb k 0)) (read-count d z (taken-facts d ok)))
+      ∙ go (provisional (d .stage)) (d .allotted) (eqb (d .count) 0)
+    where
+      go : (a b c : Bool) → either (not a) (either b (not c)) ≡ not (both a (both (not b) c))
+      go true true c = refl
+      go true false c = refl
+      go false b c = refl
+
+  rows-test : not (both (eqb (length (rows-of rs)) ROWS) (every row-right (rows-of rs))) ≡ not (every row-right (rows-of rs))
+  rows-test = ap (λ k. not (both (eqb k ROWS) (every row-right (rows-of rs)))) (rows-long rs)
+
+  pub stand-in-1 : both (provisional (d .stage)) (both (not (d .allotted)) (eqb (d .count) 0)) ≡ false → outcome (refused 1) d ≡ called (stand-in TOLERANCE (rows-of rs)) d
+  unfolding stand-in read
+  stand-in-1 h = called-refused (stand-in TOLERANCE (rows-of rs)) d 1 ok (test-holds 1 _ _ (stage-test ∙ ap not h))
+
+  module _ (open-day : both (provisional (d .stage)) (both (not (d .allotted)) (eqb (d .count) 0)) ≡ true) where
+    pub stand-in-2 : every row-right (rows-of rs) ≡ false → outcome (refused 2) d ≡ called (stand-in TOLERANCE (rows-of rs)) d
+    unfolding stand-in read
+    stand-in-2 h =
+        called-refused (stand-in TOLERANCE (rows-of rs)) d 2 ok
+        (test-passed 1 _ _ (stage-test ∙ ap not open-day) (test-holds 2 _ _ (rows-test ∙ ap not h)))
+
+    module _ (right : every row-right (rows-of rs) ≡ true) where
+      pub stand-in-7 : is-measured (d .measurement) ≡ false → outcome (refused 7) d ≡ called (stand-in TOLERANCE (rows-of rs)) d
+      unfolding stand-in read
+      stand-in-7 h =
+          called-refused (stand-in TOLERANCE (rows-of rs)) d 7 ok
+          (test-passed 1 _ _ (stage-test ∙ ap not open-day) (test-passed 2 _ _ (rows-test ∙ ap not right) (test-holds 7 _ _ (ap not h))))
+
+      module _ (measured : is-measured (d .measurement) ≡ true) (n : ℕ) (e : pos n ≡ net-of (d .measurement)) where
+        pub stand-in-9 : leb n TOLERANCE ≡ true → outcome (refused 9) d ≡ called (stand-in TOLERANCE (rows-of rs)) d
+        unfolding stand-in read
+        stand-in-9 h =
+            called-refused (stand-in TOLERANCE (rows-of rs)) d 9 ok
+            (test-passed 1 _ _ (stage-test ∙ ap not open-day) (test-passed 2 _ _ (rows-test ∙ ap not right) (test-passed 7 _ _ (ap not measured)
+            (test-holds 9 _ _ (sym (ap (at-most TOLERANCE) e) ∙ h)))))
+
+        module _ (beyond : leb n TOLERANCE ≡ false) where
+          later : {v : Verdict} (ts : List Test) → verdict ts ≡ v
+              → verdict ((1 when either (not (provisional (d .stage))) (either (d .allotted) (some (read d .users))))
+              ∷ (2 when not (both (eqb (length (rows-of rs)) ROWS) (every row-right (rows-of rs))))
+              ∷ (7 when not (is-measured (d .measurement)))
+              ∷ (9 when at-most TOLERANCE (net-of (d .measurement)))
+              ∷ ts) ≡ v
+          later ts q =
+              test-passed 1 _ _ (stage-test ∙ ap not open-day) (test-passed 2 _ _ (rows-test ∙ ap not right) (test-passed 7 _ _ (ap not measured)
+              (test-passed 9 _ _ (sym (ap (at-most TOLERANCE) e) ∙ beyond) q)))
+
+          pub stand-in-10 : nearest-filled (rows-of rs) ≡ [] → outcome (refused 10) d ≡ called (stand-in TOLERANCE (rows-of rs)) d
+          unfolding stand-in read
+          stand-in-10 h = called-refused (stand-in TOLERANCE (rows-of rs)) d 10 ok (later _ (test-holds 10 _ _ (ap (λ ps. not (some ps)) h)))
+
+          module _ (r : ℕ) (near : Nearest (rs .counts) r) (found : r < ROWS) where
+            last-tests : {v : Verdict}
+                → verdict ((11 when negative (amounts-of (row-at rs r))) ∷ (12 when too-large (opened (net-of (d .measurement)) (row-at rs r))) ∷ []) ≡ v
+                → verdict (stand-in TOLERANCE (rows-of rs) (read d) .tests) ≡ v
+            unfolding stand-in read
+            last-tests q =
+                later _ (test-passed 10 _ _ (ap not (row-filled rs r near found))
+                (ap (λ ps. verdict ((11 when negative (amounts-of ps)) ∷ (12 when too-large (opened (net-of (d .measurement)) ps)) ∷ [])) (row-used rs r near found) ∙ q))
+
+-- ---- the row that is used
+
+module _ (d : PointDay) (rs : StandInRows) (n r : ℕ) (u : Usable d rs n r) (ul : length (rs .users) ≡ USERS * ROWS) (zl : length (rs .amounts) ≡ USERS * ROWS) where
+  abbrev ps : List Pair
+  ps = row-at rs r
+
+  abbrev count : ℕ
+  count = getD (rs .counts) r 0
+
+  abbrev pub us : List ℕ
+  us = take (USERS * r + count - USERS * r) (drop (USERS * r) (rs .users))
+
+  abbrev zs : List ℤ
+  zs = take (USERS * r + count - USERS * r) (drop (USERS * r) (rs .amounts))
+
+  row-long : length ps ≡ count
+  row-long = length-table (pair-at rs r) count
+
+  row-ok : row-right ps ≡ true
+  row-ok =
+      sym (ap row-right (row-used rs r (u .nearest) (u .found)))
+      ∙ right-used (rows-of rs) (u .right) (row-filled rs r (u .nearest) (u .found))
+
+  row : Row ps
+  row = row-is ps row-ok
+
+  pub count-few : count ≤ USERS
+  count-few = omega (arith, row-long, row .few)
+
+  are-users : users-of ps ≡ us
+  are-users = row-users rs ul zl r (u .found) count-few
+
+  are-amounts : amounts-of ps ≡ zs
+  are-amounts = row-amounts rs ul zl r (u .found) count-few
+
+  pub users-few : length us ≤ USERS
+  users-few = omega (arith, ap length are-users, length-map ps (λ (p : Pair). p .user), row .few)
+
+  pub users-some : 0 < length us
+  users-some =
+      omega (
+        arith,
+        ap length are-users,
+        length-map ps (λ (p : Pair). p .user),
+        some-length ps (ap some (sym (row-used rs r (u .nearest) (u .found))) ∙ row-filled rs r (u .nearest) (u .found)),
+      )
+
+  pub same-long : length zs ≡ length us
+  same-long = sym (ap length are-amounts) ∙ length-map ps (λ (p : Pair). p .amount) ∙ sym (length-map ps (λ (p : Pair). p .user)) ∙ ap length are-users
+
+  pub amounts-small : (i : ℕ) → Within AMOUNT (atZ zs i)
+  amounts-small i =
+      rw (← are-amounts)
+      (all-within AMOUNT (amounts-of ps)
+      (all-map (λ x. no-more AMOUNT x ≡ true) _ (λ x h. leb-true (natAbs x) AMOUNT h) (amounts-of ps)
+      (all-every (no-more AMOUNT) (amounts-of ps)
+      (both-snd (rising (users-of ps)) _ (both-snd (every is-number (users-of ps)) _ (both-snd (leb (length ps) USERS) _ row-ok))))) i)
+
+  pub net-few : n ≤ LIMIT
+  net-few = omega (arith, ap natAbs (u .net), net-small (d .measurement) (taken-facts d (u .taken) .measurement))
+
+  -- the point-day after it
+  abbrev pub next : PointDay
+  next = opened-with us (padded USERS (pos 0) (prorateZ (pos n) (map natAbs zs) us)) d
+
+  next-is : opened-with (users-of ps) (padded USERS (pos 0) (prorateZ (pos n) (map natAbs (amounts-of ps)) (users-of ps))) d ≡ next
+  next-is = ap₂ (λ a b. opened-with a (padded USERS (pos 0) (prorateZ (pos n) (map natAbs b) a)) d) are-users are-amounts
+
+  pub next-summable : Laid next
+  next-summable = rw (← next-is) (summable (pos n) ps d (row .few) (row .apart) net-few)
+
+  negative-is : negative (amounts-of ps) ≡ negative zs
+  negative-is = ap negative are-amounts
+
+  large-is : too-large (opened (net-of (d .measurement)) ps) ≡ too-large (read next .users)
+  large-is =
+      ap (λ x. too-large (opened x ps)) (sym (u .net))
+      ∙ ap too-large (sym (read-opened (pos n) ps d (row .few)))
+      ∙ ap (λ (e : PointDay). too-large (read e .users)) next-is
+
+  tests : {v : Verdict} → verdict ((11 when negative (amounts-of ps)) ∷ (12 when too-large (opened (net-of (d .measurement)) ps)) ∷ []) ≡ v
+      → verdict (stand-in TOLERANCE (rows-of rs) (read d) .tests) ≡ v
+  tests = last-tests d (u .sized) (u .taken) rs (u .stage) (u .right) (u .measured) n (u .net) (u .beyond) r (u .nearest) (u .found)
+
+  pub stand-in-11 : negative zs ≡ true → outcome (refused 11) d ≡ called (stand-in TOLERANCE (rows-of rs)) d
+  stand-in-11 h = called-refused (stand-in TOLERANCE (rows-of rs)) d 11 (u .taken) (tests (test-holds 11 _ _ (negative-is ∙ h)))
+
+  module _ (above : negative zs ≡ false) where
+    pub stand-in-12 : too-large (read next .users) ≡ true → outcome (refused 12) d ≡ called (stand-in TOLERANCE (rows-of rs)) d
+    stand-in-12 h =
+        called-refused (stand-in TOLERANCE (rows-of rs)) d 12 (u .taken) (tests (test-passed 11 _ _ (negative-is ∙ above) (test-holds 12 _ _ (large-is ∙ h))))
+
+    after-is : laid (stand-in TOLERANCE (rows-of rs) (read d) .after) ≡ next
+    unfolding stand-in
+    after-is =
+        ap₂ (λ x qs. laid (allotted-with (opened x qs) (read d))) (net-read ∙ sym (u .net)) (row-used rs r (u .nearest) (u .found))
+        ∙ laid-opened (pos n) ps d (row .few)
+        ∙ next-is
+      where
+        net-read : net (read d) ≡ net-of (d .measurement)
+        net-read = unfold read in refl
+
+    answer-is : stand-in TOLERANCE (rows-of rs) (read d) .answer ≡ rows-looked-at (r + 1)
+    unfolding stand-in
+    answer-is = ap rows-looked-at (rows-passed rs r (u .nearest) (u .found))
+
+    pub stand-in-done : too-large (read next .users) ≡ false → outcome (rows-looked-at (r + 1)) next ≡ called (stand-in TOLERANCE (rows-of rs)) d
+    stand-in-done h =
+        ap₂ (λ (a : Answer) (e : PointDay). outcome a e) (sym answer-is) (sym after-is)
+        ∙ called-accepted (stand-in TOLERANCE (rows-of rs)) d (u .taken) (tests (test-passed 11 _ _ (negative-is ∙ above) (test-passed 12 _ _ (large-is ∙ h) none-left)))

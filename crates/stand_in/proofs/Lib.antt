@@ -1,4 +1,0 @@
-pub mod Rising
-pub mod Rows
-pub mod Opening
-pub mod Standing

@@ -1,0 +1,337 @@
+-- A point-day is taken if and only if each test of the code holds. Assumes nothing.
+use mathlib.Core.Path.{_≡_, refl, sym, ap, _∙_}
+use mathlib.Core.Bool.{Bool, true, false, not}
+use mathlib.Core.List.{List, [], _∷_, map}
+use mathlib.Core.Logic.{⊎-elim}
+use Prim.Native.Nat.{ℕ, _+_, _*_, _/_, _%_, _≤_, _<_}
+use native.Mathlib.Omega.{arith}
+use lib.Dec.{eqb}
+use lib.IntN.{ℤ, pos, negℤ, natAbs}
+use lib.ListN.{length, getD, take, drop, List·getD-map}
+use lib.Seq.{getD-take, getD-drop}
+use borrow.Author.Tests.{le-leb, leb-true, eqb-true, eq-eqb, not-true, not-false}
+use Rattle.numbers.specs.Sums.{sumZ, table, at, atZ, total}
+use Rattle.numbers.specs.Lists.{every, has, distinct}
+use Rattle.numbers.specs.Amounts.{Between, Decides, is-negative}
+use Rattle.numbers.proofs.Places.{every-at, at-every, every-from, from-every}
+use Rattle.numbers.proofs.Sums.{lt-or-ge, length-table, getD-table, table-take, at-total, sumZ-eq}
+use Rattle.numbers.proofs.Lists.{true≢false, never, both-fst, both-snd, both-true, every-all, all-table}
+use Rattle.point_day.specs.Limits.{USERS, CELLS, KINDS, LIMIT, AMOUNT}
+use Rattle.point_day.specs.Day.{User, numbers, whole, is-measured, some, no-more, is-zero, measurement-right, too-large}
+use Rattle.point_day.specs.Struct.{Sized, kinds-of, user-at, read, none-past, none-below, unallotted, amounts-right, sum-right, taken}
+use Rattle.point_day.specs.declared.Measurement.{Measurement}
+use Rattle.point_day.specs.declared.PointDay.{PointDay}
+use Rattle.point_day.proofs.Taken.{Past, Taken, taken-facts, facts-taken}
+use Rattle.point_day.proofs.Back.{map-table, every-take, every-drop}
+use Rattle.state.specs.Places.{From, ROOM, Laid, whole-at}
+use Rattle.state.proofs.Cells.{zero-between, between-zero, between-sign, low-size, nonneg-between, between-size, size-between, within-from, low-from}
+use Rattle.state.proofs.Totals.{kinds-long, offtake-is, whole-is, wholes-are}
+use Rattle.amount_ranges.specs.Ranges.{Cells, Arrays, Wholes}
+use Rattle.taken.specs.Standing.{Stands}
+
+abbrev pub wholes-of : PointDay → ℕ → ℤ
+wholes-of d = whole-at (d .consumption) (d .losses) (d .balance) (d .revision)
+
+-- what the code tests
+pub record Facts (d : PointDay) : Type 0 where
+  pub few : d .count ≤ USERS
+  pub past : (i : ℕ) → d .count ≤ i → i < length (d .users) → getD (d .users) i 0 ≡ 0
+  pub named : has 0 (take (d .count) (d .users)) ≡ false
+  pub apart : distinct (take (d .count) (d .users)) ≡ true
+  pub arrays : Arrays (d .count) (d .consumption) (d .losses) (d .balance) (d .revision)
+  pub measurement : measurement-right (d .measurement) ≡ true
+  pub offtake : total (map natAbs (d .consumption)) + total (map natAbs (d .losses)) ≤ LIMIT
+  pub wholes : Wholes (d .count) (wholes-of d)
+  pub stands : Stands (d .allotted) (d .count) (d .measurement) (d .balance) (d .revision)
+
+-- ---- the user numbers
+
+numbers-are : (d : PointDay) → d .count ≤ length (d .users) → numbers (read d .users) ≡ take (d .count) (d .users)
+unfolding read user-at
+numbers-are d l = map-table (λ (u : User). u .number) (user-at d) (d .count) ∙ table-take 0 (d .users) (d .count) l
+
+-- ---- the users one by one
+
+every-user : (d : PointDay) (p : User → Bool) → every p (read d .users) ≡ true → (s : ℕ) → s < d .count → p (user-at d s) ≡ true
+unfolding read
+every-user d p e s l =
+    ap p (sym (getD-table (user-at d) (d .count) s (user-at d s) l)) ∙ every-at p (user-at d s) (table (user-at d) (d .count)) e s (omega (arith, length-table (user-at d) (d .count)))
+
+all-users : (d : PointDay) (p : User → Bool) → ((s : ℕ) → s < d .count → p (user-at d s) ≡ true) → every p (read d .users) ≡ true
+unfolding read
+all-users d p h = every-all p (table (user-at d) (d .count)) (all-table (λ u. p u ≡ true) (user-at d) (d .count) h)
+
+some-users : (d : PointDay) → (d .count ≡ 0 → ⊥) → some (read d .users) ≡ true
+unfolding read
+some-users d h = go (table (user-at d) (d .count)) (length-table (user-at d) (d .count))
+  where
+    go : (us : List User) → length us ≡ d .count → some us ≡ true
+    go [] e = absurd (h (sym e))
+    go (u ∷ us) e = refl
+
+users-some : (d : PointDay) → some (read d .users) ≡ true → d .count ≡ 0 → ⊥
+unfolding read
+users-some d e h = go (table (user-at d) (d .count)) (length-table (user-at d) (d .count)) e
+  where
+    go : (us : List User) → length us ≡ d .count → some us ≡ true → ⊥
+    go [] l t = true≢false (sym t)
+    go (u ∷ us) l t = omega arith
+
+-- every cell of an array whose slots are right, and past them
+cells-at : (p : ℤ → Bool) (n : ℕ) (xs : List ℤ) → length xs ≡ CELLS → n ≤ USERS → ((s : ℕ) → s < n → every p (kinds-of s xs) ≡ true) → ((i : ℕ) → KINDS * n ≤ i → i < length xs → p (atZ xs i) ≡ true)
+    → (i : ℕ) → i < length xs → p (atZ xs i) ≡ true
+cells-at p n xs z m h k i l =
+    ⊎-elim
+    (λ q.
+    let e : 5 * (i / 5) + i % 5 ≡ i = omega arith in
+    let one = every-at p (pos 0) (kinds-of (i / 5) xs) (h (i / 5) (omega arith)) (i % 5) (omega (arith, kinds-long xs (i / 5) (omega arith))) in
+    ap p (ap (atZ xs) (sym e) ∙ sym (getD-drop (5 * (i / 5)) xs (i % 5) (pos 0)) ∙ sym (getD-take 5 (drop (5 * (i / 5)) xs) (i % 5) (pos 0) (omega arith))) ∙ one)
+    (λ q. k i q l)
+    (lt-or-ge i (5 * n))
+
+slot-cells : (p : ℤ → Bool) (xs : List ℤ) (s : ℕ) → every p xs ≡ true → every p (kinds-of s xs) ≡ true
+slot-cells p xs s e = every-take p KINDS (drop (KINDS * s) xs) (every-drop p (KINDS * s) xs e)
+
+signs-right : (xs : List ℤ) → From 0 (pos 0) (pos LIMIT) xs → none-below xs ≡ true
+signs-right xs h = at-every (λ z. not (is-negative z)) (pos 0) xs (λ i l. ap not (between-sign (atZ xs i) (h i (omega arith) l)))
+
+-- ---- from the code's tests to the sentence
+
+module _ (d : PointDay) (z : Sized d) (f : Facts d) where
+  nothing-past : {low high : ℤ} (n : ℕ) (xs : List ℤ) → Cells low high n xs → none-past n xs ≡ true
+  nothing-past n xs h = from-every is-zero (pos 0) n xs (λ i l m. between-zero (atZ xs i) (h .rest i l m))
+
+  sizes-right : (n : ℕ) (xs : List ℤ) → Cells (negℤ (pos AMOUNT)) (pos AMOUNT) n xs → every (no-more AMOUNT) xs ≡ true
+  sizes-right n xs h = at-every (no-more AMOUNT) (pos 0) xs (λ i l. le-leb (natAbs (atZ xs i)) AMOUNT (between-size (atZ xs i) (h .range i (omega arith) l)))
+
+  consumption-right : none-below (d .consumption) ≡ true
+  consumption-right = signs-right (d .consumption) (f .arrays .consumption .range)
+
+  losses-right : none-below (d .losses) ≡ true
+  losses-right = signs-right (d .losses) (f .arrays .losses .range)
+
+  past-right : Past d
+  past-right = record {
+    users = from-every (λ n. eqb n 0) 0 (d .count) (d .users) (λ i l m. eq-eqb (getD (d .users) i 0) 0 (f .past i l m));
+    consumption = nothing-past (KINDS * d .count) (d .consumption) (f .arrays .consumption);
+    losses = nothing-past (KINDS * d .count) (d .losses) (f .arrays .losses);
+    balance = nothing-past (KINDS * d .count) (d .balance) (f .arrays .balance);
+    revision = nothing-past (d .count) (d .revision) (f .arrays .revision);
+  }
+
+  amounts-are : (s : ℕ) → s < d .count → amounts-right (user-at d s) ≡ true
+  unfolding user-at
+  amounts-are s l =
+      both-true
+      (slot-cells (no-more AMOUNT) (d .balance) s (sizes-right (KINDS * d .count) (d .balance) (f .arrays .balance)))
+      (every-at (no-more AMOUNT) (pos 0) (d .revision) (sizes-right (d .count) (d .revision) (f .arrays .revision)) s (omega (arith, z .revision, f .few)))
+
+  bare : From 0 (pos 0) (pos 0) (d .balance) × From 0 (pos 0) (pos 0) (d .revision) → (s : ℕ) → s < d .count → unallotted (user-at d s) ≡ true
+  unfolding user-at
+  bare b s l =
+      both-true
+      (slot-cells is-zero (d .balance) s (at-every is-zero (pos 0) (d .balance) (λ i m. between-zero (atZ (d .balance) i) (b .0 i (omega arith) m))))
+      (between-zero (atZ (d .revision) s) (b .1 s (omega arith) (omega (arith, z .revision, f .few))))
+
+  entering-right : (p : Bool) → Stands p (d .count) (d .measurement) (d .balance) (d .revision) → p ≡ false → every unallotted (read d .users) ≡ true
+  entering-right true h e = true≢false e
+  entering-right false h e = all-users d unallotted (bare h)
+
+  standing-right : (p : Bool) → Stands p (d .count) (d .measurement) (d .balance) (d .revision) → p ≡ true → (some (read d .users) ≡ true) × (is-measured (d .measurement) ≡ true)
+  standing-right true h e = (some-users d (h .0), h .1)
+  standing-right false h e = true≢false (sym e)
+
+  sum-is : (w : ℤ) → Between (pos 0) (pos LIMIT) w → sum-right w ≡ true
+  sum-is w b = both-true (ap not (between-sign w b)) (le-leb (natAbs w) LIMIT (low-size LIMIT w b))
+
+  pub tests-pass : taken d ≡ true
+  tests-pass =
+      facts-taken d
+      record {
+        few = f .few;
+        named = rw (numbers-are d (omega (arith, z .users, f .few))) (f .named);
+        apart = rw (numbers-are d (omega (arith, z .users, f .few))) (f .apart);
+        past = past-right;
+        measurement = f .measurement;
+        consumption = consumption-right;
+        losses = losses-right;
+        offtake = rw (offtake-is d (past-right .consumption) (past-right .losses)) (f .offtake);
+        entering = entering-right (d .allotted) (f .stands);
+        amounts = all-users d amounts-right amounts-are;
+        wholes = ap not (all-users d (λ u. no-more AMOUNT (whole u)) (λ s l.
+            le-leb (natAbs (whole (user-at d s))) AMOUNT (rw (whole-is d z consumption-right losses-right s (omega (arith, f .few))) (f .wholes .each s l))));
+        sum = ap sum-right (wholes-are d z consumption-right losses-right (f .few)) ∙ sum-is (sumZ (wholes-of d) (d .count)) (f .wholes .sum);
+        standing = standing-right (d .allotted) (f .stands);
+      }
+
+-- ---- and back
+
+module _ (d : PointDay) (z : Sized d) (t : Taken d) where
+  rest-of : (n : ℕ) (xs : List ℤ) → none-past n xs ≡ true → From n (pos 0) (pos 0) xs
+  rest-of n xs e i l m = zero-between (atZ xs i) (every-from is-zero (pos 0) n xs e i l m)
+
+  cell-small : (xs : List ℤ) (m : ℕ) → total (map natAbs xs) ≤ m → (i : ℕ) → i < length xs → natAbs (atZ xs i) ≤ m
+  cell-small xs m l i k = omega (arith, rw (List·getD-map natAbs xs i (pos 0)) at (at-total (map natAbs xs) i))
+
+  totals : total (map natAbs (d .consumption)) + total (map natAbs (d .losses)) ≤ LIMIT
+  totals = rw (offtake-is d (t .past .consumption) (t .past .losses)) at (t .offtake)
+
+  low-cells : (xs : List ℤ) → none-below xs ≡ true → none-past (KINDS * d .count) xs ≡ true → total (map natAbs xs) ≤ LIMIT → Cells (pos 0) (pos LIMIT) (KINDS * d .count) xs
+  low-cells xs b p m = record {
+    range = λ i l q. nonneg-between LIMIT (atZ xs i) (not-true _ (every-at (λ z. not (is-negative z)) (pos 0) xs b i q)) (cell-small xs LIMIT m i q);
+    rest = rest-of (KINDS * d .count) xs p;
+  }
+
+  amounts-of : (s : ℕ) → s < d .count → (every (no-more AMOUNT) (kinds-of s (d .balance)) ≡ true) × (no-more AMOUNT (atZ (d .revision) s) ≡ true)
+  unfolding user-at
+  amounts-of s l =
+      let h = every-user d amounts-right (t .amounts) s l in
+      (both-fst (every (no-more AMOUNT) (kinds-of s (d .balance))) _ h, both-snd (every (no-more AMOUNT) (kinds-of s (d .balance))) _ h)
+
+  zero-small : (z : ℤ) → Between (pos 0) (pos 0) z → no-more AMOUNT z ≡ true
+  zero-small z h = le-leb (natAbs z) AMOUNT (omega (arith, low-size 0 z h))
+
+  balance-cells : Cells (negℤ (pos AMOUNT)) (pos AMOUNT) (KINDS * d .count) (d .balance)
+  balance-cells =
+      let rest = rest-of (KINDS * d .count) (d .balance) (t .past .balance) in
+      record {
+        range = λ i l q. size-between (atZ (d .balance) i)
+            (leb-true (natAbs (atZ (d .balance) i)) AMOUNT (cells-at (no-more AMOUNT) (d .count) (d .balance) (z .balance) (t .few) (λ s l. amounts-of s l .0) (λ i l q. zero-small _ (rest i l q)) i q));
+        rest = rest;
+      }
+
+  revision-cells : Cells (negℤ (pos AMOUNT)) (pos AMOUNT) (d .count) (d .revision)
+  revision-cells =
+      let rest = rest-of (d .count) (d .revision) (t .past .revision) in
+      record {
+        range = λ i l q. size-between (atZ (d .revision) i)
+            (leb-true (natAbs (atZ (d .revision) i)) AMOUNT (⊎-elim (λ m. amounts-of i m .1) (λ m. zero-small _ (rest i m q)) (lt-or-ge i (d .count))));
+        rest = rest;
+      }
+
+  bare-of : every unallotted (read d .users) ≡ true → (s : ℕ) → s < d .count → (every is-zero (kinds-of s (d .balance)) ≡ true) × (is-zero (atZ (d .revision) s) ≡ true)
+  unfolding user-at
+  bare-of e s l =
+      let h = every-user d unallotted e s l in
+      (both-fst (every is-zero (kinds-of s (d .balance))) _ h, both-snd (every is-zero (kinds-of s (d .balance))) _ h)
+
+  stands-of : (p : Bool) → d .allotted ≡ p → Stands p (d .count) (d .measurement) (d .balance) (d .revision)
+  stands-of true e = (users-some d (t .standing e .0), t .standing e .1)
+  stands-of false e =
+      let b = bare-of (t .entering e) in (
+        λ i l q. zero-between (atZ (d .balance) i)
+            (cells-at is-zero (d .count) (d .balance) (z .balance) (t .few) (λ s l. b s l .0) (every-from is-zero (pos 0) (KINDS * d .count) (d .balance) (t .past .balance)) i q),
+        λ i l q. zero-between (atZ (d .revision) i)
+            (⊎-elim (λ m. b i m .1) (λ m. every-from is-zero (pos 0) (d .count) (d .revision) (t .past .revision) i m q) (lt-or-ge i (d .count))),
+      )
+
+  sum-of : (w : ℤ) → sum-right w ≡ true → Between (pos 0) (pos LIMIT) w
+  sum-of w e = nonneg-between LIMIT w (not-true _ (both-fst (not (is-negative w)) _ e)) (leb-true (natAbs w) LIMIT (both-snd (not (is-negative w)) _ e))
+
+  facts-of : Facts d
+  facts-of = record {
+    few = t .few;
+    past = λ i l m. eqb-true (getD (d .users) i 0) 0 (every-from (λ n. eqb n 0) 0 (d .count) (d .users) (t .past .users) i l m);
+    named = rw (numbers-are d (omega (arith, z .users, t .few))) at (t .named);
+    apart = rw (numbers-are d (omega (arith, z .users, t .few))) at (t .apart);
+    arrays = record {
+      consumption = low-cells (d .consumption) (t .consumption) (t .past .consumption) (omega (arith, totals));
+      losses = low-cells (d .losses) (t .losses) (t .past .losses) (omega (arith, totals));
+      balance = balance-cells;
+      revision = revision-cells;
+    };
+    measurement = t .measurement;
+    offtake = totals;
+    wholes = record {
+      each = λ s l. rw (whole-is d z (t .consumption) (t .losses) s (omega (arith, t .few))) at
+          (leb-true (natAbs (whole (user-at d s))) AMOUNT (every-user d (λ u. no-more AMOUNT (whole u)) (not-false _ (t .wholes)) s l));
+      sum = sum-of (sumZ (wholes-of d) (d .count)) (sym (ap sum-right (wholes-are d z (t .consumption) (t .losses) (t .few))) ∙ t .sum);
+    };
+    stands = stands-of (d .allotted) refl;
+  }
+
+pub facts : (d : PointDay) → Sized d → taken d ≡ true → Facts d
+facts d z e = facts-of d z (taken-facts d e)
+
+-- ---- what the code's tests say
+
+pub untaken : (d : PointDay) → Sized d → (Facts d → ⊥) → false ≡ taken d
+untaken d z h = go (taken d) refl
+  where
+    go : (p : Bool) → taken d ≡ p → false ≡ p
+    go true e = absurd (h (facts d z e))
+    go false e = refl
+
+pub taken-by : (d : PointDay) → Sized d → (r : Bool) → (r ≡ true → Facts d) → (r ≡ false → Facts d → ⊥) → r ≡ taken d
+taken-by d z true y n = sym (tests-pass d z (y refl))
+taken-by d z false y n = untaken d z (n refl)
+
+-- ---- what the calls use
+
+pub laid-day : (d : PointDay) → Sized d → d .count ≤ USERS → Arrays (d .count) (d .consumption) (d .losses) (d .balance) (d .revision) → Laid d
+laid-day d z l a = record {
+  few = l;
+  consumption = low-from LIMIT (d .consumption) (a .consumption .range) ROOM (omega arith);
+  losses = low-from LIMIT (d .losses) (a .losses .range) ROOM (omega arith);
+  balance = within-from AMOUNT (d .balance) (λ i l q. between-size (atZ (d .balance) i) (a .balance .range i l q)) ROOM (omega arith);
+  revision = within-from AMOUNT (d .revision) (λ i l q. between-size (atZ (d .revision) i) (a .revision .range i l q)) ROOM (omega arith);
+  above = signs-right (d .consumption) (a .consumption .range);
+  above-losses = signs-right (d .losses) (a .losses .range);
+}
+
+-- refusal 12
+module _ (d : PointDay) (z : Sized d) (l : Laid d) (xs : List ℤ) (e : xs ≡ table (wholes-of d) (d .count)) where
+  small-at : (s : ℕ) → s < d .count → natAbs (atZ xs s) ≡ natAbs (whole (user-at d s))
+  small-at s m =
+      ap natAbs (ap (λ t. atZ t s) e ∙ getD-table (wholes-of d) (d .count) s (pos 0) m ∙ sym (whole-is d z (l .above) (l .above-losses) s (omega (arith, l .few))))
+
+  pub too-large-by : (r : Bool) → Decides r (From 0 (negℤ (pos AMOUNT)) (pos AMOUNT) xs) → not r ≡ too-large (read d .users)
+  too-large-by true h =
+      sym (ap not (all-users d (λ u. no-more AMOUNT (whole u))
+      (λ s m. le-leb (natAbs (whole (user-at d s))) AMOUNT (rw (← small-at s m) (between-size (atZ xs s) (h .yes refl s (omega arith) (omega (arith, ap length e, length-table (wholes-of d) (d .count)))))))))
+  too-large-by false h = go (every (λ u. no-more AMOUNT (whole u)) (read d .users)) refl
+    where
+      go : (p : Bool) → every (λ u. no-more AMOUNT (whole u)) (read d .users) ≡ p → true ≡ not p
+      go true q =
+          absurd
+          (h .no refl
+          (λ s m k.
+          let n : s < d .count = omega (arith, ap length e, length-table (wholes-of d) (d .count)) in
+          size-between (atZ xs s) (rw (small-at s n) (leb-true (natAbs (whole (user-at d s))) AMOUNT (every-user d (λ u. no-more AMOUNT (whole u)) q s n)))))
+      go false q = refl
+
+module _ (n : ℕ) (m : Measurement) (bs rs : List ℤ) where
+  pub stands-bare : (p r : Bool) → p ≡ false → Decides r (From 0 (pos 0) (pos 0) bs × From 0 (pos 0) (pos 0) rs) → Decides r (Stands p n m bs rs)
+  stands-bare true r e h = true≢false e
+  stands-bare false r e h = h
+
+  pub stands-none : (p : Bool) → p ≡ true → n ≡ 0 → Decides false (Stands p n m bs rs)
+  stands-none true e h = record { yes = λ t. never t; no = λ t P. P .0 h }
+  stands-none false e h = true≢false (sym e)
+
+  pub stands-if : (p r : Bool) → p ≡ true → (n ≡ 0 → ⊥) → r ≡ is-measured m → Decides r (Stands p n m bs rs)
+  stands-if true r e h q = record { yes = λ t. (h, sym q ∙ t); no = λ t P. true≢false (sym (P .1) ∙ sym q ∙ t) }
+  stands-if false r e h q = true≢false (sym e)
+
+-- whole amounts that stand in a buffer
+module _ (n : ℕ) (f : ℕ → ℤ) (xs : List ℤ) (e : xs ≡ table f n) where
+  place : (i : ℕ) → i < n → atZ xs i ≡ f i
+  place i l = ap (λ t. atZ t i) e ∙ getD-table f n i (pos 0) l
+
+  long : length xs ≡ n
+  long = ap length e ∙ length-table f n
+
+  sums : sumZ (atZ xs) (length xs) ≡ sumZ f n
+  sums = ap (sumZ (atZ xs)) long ∙ sumZ-eq (atZ xs) f n place
+
+  pub wholes-table : (r : Bool) → Decides r (Wholes (length xs) (atZ xs)) → Decides r (Wholes n f)
+  wholes-table r h = record {
+    yes = λ t. record {
+      each = λ s l. rw (place s l) at (h .yes t .each s (omega (arith, long)));
+      sum = rw sums at (h .yes t .sum);
+    };
+    no = λ t P. h .no t record {
+      each = λ s l. let q : s < n = omega (arith, long) in rw (place s q) (P .each s q);
+      sum = rw sums (P .sum);
+    };
+  }
