@@ -5,8 +5,8 @@ use Prim.Native.Nat.{ℕ, _*_, _≤_}
 use native.Mathlib.Omega.{arith}
 use native.Mathlib.Nat.{mul-le-mul}
 use borrow.Author.Tests.{leb-true}
-use Rattle.degree_days.specs.Temperature.{MOST-DAYS, Corrects}
-use Rattle.degree_days.specs.declared.Fraction.{Fraction}
+use Rattle.coefficients.specs.Temperature.{MOST-DAYS, Corrects}
+use Rattle.coefficients.specs.declared.Fraction.{Fraction}
 use Rattle.supply.specs.Amounts.{LIMIT, THOUSAND, MOST-C-c, amount-right}
 use Rattle.type_1.specs.Type1.{month-34, month-other, SmallBasis}
 use Rattle.supply.specs.declared.Amount.{Amount}

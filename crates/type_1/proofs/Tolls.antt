@@ -18,8 +18,8 @@ use Rattle.calendar.specs.Calls.{calendar-right}
 use Rattle.calendar.proofs.Holidays.{calendar-day, calendar-rising}
 use Rattle.calendar.proofs.Months.{month-length, month-holds}
 use Rattle.calendar.proofs.Masks.{some-working, some-other, working-all}
-use Rattle.degree_days.specs.Temperature.{MOST-DAYS, MOST-DEGREES, is-degrees}
-use Rattle.degree_days.proofs.Winters.{Month}
+use Rattle.coefficients.specs.Temperature.{MOST-DAYS, MOST-DEGREES, is-degrees}
+use Rattle.coefficients.proofs.Winters.{Month}
 use Rattle.supply.specs.Amounts.{THOUSAND, MOST-C-c, amount-right}
 use Rattle.type_1.specs.Type1.{last-days-right, toll-34-right, sharing, other-right}
 use Rattle.supply.specs.declared.Amount.{Amount}

@@ -13,8 +13,8 @@ use Rattle.calendar.specs.Days.{is-gas-day, is-working}
 use Rattle.calendar.specs.Months.{month-days, length-of, month-from, month-of, last-year-days, N-lab, N-res}
 use Rattle.calendar.specs.Calls.{calendar-right}
 use Rattle.calendar.specs.declared.Month.{Month}
-use Rattle.degree_days.specs.Temperature.{_over_, times, divided, rounded, MOST-DAYS, is-degrees, C-temp1}
-use Rattle.degree_days.specs.declared.Fraction.{Fraction}
+use Rattle.coefficients.specs.Temperature.{_over_, times, divided, rounded, MOST-DAYS, is-degrees, C-temp1}
+use Rattle.coefficients.specs.declared.Fraction.{Fraction}
 use Rattle.supply.specs.Amounts.{THOUSAND, TEN-THOUSAND, MOST-C-c, amount-right, limited}
 use Rattle.supply.specs.declared.Amount.{Amount}
 use Rattle.supply.specs.declared.Amount.the-variants.{Missing, Known}

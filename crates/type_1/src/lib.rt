@@ -6,12 +6,12 @@ ghost use lib.Dec.{leb};
 ghost use Rattle.numbers.specs.Sums.{pick};
 ghost use Rattle.numbers.specs.Lists.{both};
 ghost use Rattle.calendar.specs.Days.{LAST-DAY};
-ghost use Rattle.degree_days.specs.Temperature.{MOST-DAYS, Corrects};
+ghost use Rattle.coefficients.specs.Temperature.{MOST-DAYS, Corrects};
 ghost use Rattle.supply.specs.Amounts.{THOUSAND, MOST-C-c, amount-right, consumption-said};
 ghost use Rattle.type_1.specs.Type1.{month-34, month-other, day-of, part-of, SmallBasis, MOST-DIVISOR, last-days-right, toll-34-right, toll-34, other-right, other-toll};
 use calendar::NO_BASIS;
 use calendar::OUT_OF_RANGE;
-use degree_days::Fraction;
+use coefficients::Fraction;
 use supply::Amount;
 use supply::ConsumptionAnswer;
 use supply::THOUSAND;
@@ -121,7 +121,7 @@ fn are_last_days(day: u32, last_days: &[u32]) -> bool
     if last_days.len() != calendar::days_last_year(month) as usize {
         return false;
     }
-    degree_days::are_all_degrees(last_days)
+    coefficients::are_all_degrees(last_days)
 }
 
 // Whether everything that is given for a point of toll 3.4 is in its range.
@@ -141,7 +141,7 @@ fn is_toll_34(
     if !are_amounts(last_year, last_month, year_flow) {
         return false;
     }
-    if !degree_days::are_degrees(g) {
+    if !coefficients::are_degrees(g) {
         return false;
     }
     are_last_days(day, last_days)
@@ -161,8 +161,8 @@ pub fn toll_34(
     if !is_toll_34(day, last_year, g, last_days, last_month, year_flow) {
         return ConsumptionAnswer::Refused(OUT_OF_RANGE);
     }
-    let mean = degree_days::mean_of(last_days);
-    let correction = degree_days::correction_of(g, mean);
+    let mean = coefficients::mean_of(last_days);
+    let correction = coefficients::correction_of(g, mean);
     let basis = month_of_34(last_year, correction, last_month, year_flow);
     let month = calendar::month_of_day(day);
     day_of_month(basis, 1, month.days as u64)
