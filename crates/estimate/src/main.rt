@@ -2,11 +2,10 @@
 mod input;
 mod output;
 
-use calendar::DayType;
-use calendar::DayTypeAnswer;
-use calendar::MonthAnswer;
 use cursor::Cursor;
 use cursor::MOST_LENT;
+use day_types::DayType;
+use day_types::DayTypeAnswer;
 use degree_days::DegreeDays;
 use libc::STDIN_FILENO;
 use reading::SpreadAnswer;
@@ -17,6 +16,7 @@ use supply::Toll;
 use telemetered::OwnValue;
 use telemetered::TelemeteredAnswer;
 use type_2::ProfileAnswer;
+use working_days::MonthAnswer;
 use zones::ProvinceAnswer;
 use zones::ZoneAnswer;
 
@@ -338,7 +338,7 @@ fn day_type(s: &[u8], from: Cursor) -> Cursor {
     let n = holidays.count;
     let next = holidays.next;
     if next.ok {
-        print_day_type(calendar::day_type(day.value, &days[..n]));
+        print_day_type(day_types::day_type(day.value, &days[..n]));
     }
     next
 }
@@ -369,7 +369,7 @@ fn month(s: &[u8], from: Cursor) -> Cursor {
     let n = holidays.count;
     let next = holidays.next;
     if next.ok {
-        print_month(calendar::month_figures(day.value, &days[..n]));
+        print_month(working_days::month_figures(day.value, &days[..n]));
     }
     next
 }

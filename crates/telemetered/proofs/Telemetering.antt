@@ -11,7 +11,7 @@ use Rattle.numbers.specs.Sums.{pick}
 use Rattle.numbers.specs.Lists.{both, every, rising}
 use Rattle.numbers.proofs.Lists.{both-fst, both-snd}
 use Rattle.calendar.specs.Answers.{refused, given, NO-BASIS}
-use Rattle.calendar.specs.Calls.{calendar-right}
+use Rattle.calendar.specs.Days.{calendar-right}
 use Rattle.calendar.proofs.Holidays.{calendar-rising}
 use Rattle.supply.specs.Amounts.{amount-right, flows-right}
 use Rattle.history.specs.History.{ENTRIES, Dated, Metered, entry-right, history-right, last-three, sum-of, mean-value, looked-at, is-empty, is-new}

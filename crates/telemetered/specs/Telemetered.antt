@@ -8,7 +8,7 @@ use Rattle.numbers.specs.Nearest.{nearest}
 use Rattle.numbers.specs.Sums.{pick}
 use Rattle.numbers.specs.Lists.{both}
 use Rattle.calendar.specs.Answers.{Answer, refused, given, _when_, tested, OUT-OF-RANGE, NO-BASIS}
-use Rattle.calendar.specs.Calls.{calendar-right}
+use Rattle.calendar.specs.Days.{calendar-right}
 use Rattle.supply.specs.Amounts.{in-limit, amount-right, flows-right}
 use Rattle.supply.specs.NewConsumer.{new-consumption}
 use Rattle.history.specs.History.{Dated, history-right, dated, last-three, mean-value, looked-at, is-empty, is-new}

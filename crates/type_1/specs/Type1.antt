@@ -9,10 +9,11 @@ use Rattle.numbers.specs.Nearest.{nearest}
 use Rattle.numbers.specs.Sums.{pick}
 use Rattle.numbers.specs.Lists.{both, every, has}
 use Rattle.calendar.specs.Answers.{Answer, refused, given, _when_, tested, OUT-OF-RANGE, NO-BASIS}
-use Rattle.calendar.specs.Days.{is-gas-day, is-working}
-use Rattle.calendar.specs.Months.{month-days, length-of, month-from, month-of, last-year-days, N-lab, N-res}
-use Rattle.calendar.specs.Calls.{calendar-right}
-use Rattle.calendar.specs.declared.Month.{Month}
+use Rattle.calendar.specs.Days.{is-gas-day, calendar-right}
+use Rattle.day_types.specs.DayTypes.{is-working}
+use Rattle.months.specs.Months.{month-days, length-of, month-from, month-of, last-year-days}
+use Rattle.working_days.specs.WorkingDays.{N-lab, N-res}
+use Rattle.months.specs.declared.Month.{Month}
 use Rattle.coefficients.specs.Temperature.{_over_, times, divided, rounded, MOST-DAYS, is-degrees, C-temp1}
 use Rattle.coefficients.specs.declared.Fraction.{Fraction}
 use Rattle.supply.specs.Amounts.{THOUSAND, TEN-THOUSAND, MOST-C-c, amount-right, limited}

@@ -117,8 +117,8 @@ fn are_last_days(day: u32, last_days: &[u32]) -> bool
     requires { ⌜ day ≤ LAST-DAY ⌝ }
     ensures { λ r. ⌜ r ≡ last-days-right day (now («last_days» .entry)) ⌝ }
 {
-    let month = calendar::month_of_day(day);
-    if last_days.len() != calendar::days_last_year(month) as usize {
+    let month = months::month_of_day(day);
+    if last_days.len() != months::days_last_year(month) as usize {
         return false;
     }
     coefficients::are_all_degrees(last_days)
@@ -164,7 +164,7 @@ pub fn toll_34(
     let mean = coefficients::mean_of(last_days);
     let correction = coefficients::correction_of(g, mean);
     let basis = month_of_34(last_year, correction, last_month, year_flow);
-    let month = calendar::month_of_day(day);
+    let month = months::month_of_day(day);
     day_of_month(basis, 1, month.days as u64)
 }
 
@@ -252,10 +252,10 @@ pub fn other_toll(
     ) {
         return ConsumptionAnswer::Refused(OUT_OF_RANGE);
     }
-    let month = calendar::month_of_day(day);
+    let month = months::month_of_day(day);
     let basis = month_of_other(last_year, c_c, last_month, day_flow, f_c, month.days);
-    let working = calendar::is_working(calendar::type_of_day(day, holidays));
-    let lab = calendar::working_days(month, holidays);
+    let working = day_types::is_working(day_types::type_of_day(day, holidays));
+    let lab = working_days::working_days(month, holidays);
     let days = days_for(working, month.days, lab);
     day_of_month(basis, part_for(working, c_f), THOUSAND * days)
 }

@@ -5,7 +5,7 @@ use borrow.Author.Tests.{not-true, not-false}
 use borrow.Author.Needs.{needs}
 use Rattle.type_1.specs.Type1.{SmallBasis, month-34, day-of, toll-34}
 use Rattle.calendar.specs.Answers.{tested}
-use Rattle.calendar.proofs.Months.{month-holds}
+use Rattle.months.proofs.Months.{month-holds}
 use Rattle.coefficients.specs.Temperature.{correction, C-temp1}
 use Rattle.coefficients.proofs.Winters.{mean-sound, corrects}
 use Rattle.type_1.proofs.Bases.{small-34}
