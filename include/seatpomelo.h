@@ -37,7 +37,7 @@ size_t seatpomelo_day_report(const uint8_t *file, size_t bytes, uint8_t *out, si
 /* ---- Crate reading: 0, or the number of the refusal; a share for each day in `out`. */
 uint8_t seatpomelo_spread(uint64_t reading, const int64_t *weights, size_t days, int64_t *out, size_t room);
 
-/* ---- Crate telemetered: a point of another toll without reading and own value. Tags: 0 nothing, 1 real, 2 estimated, 3 own. Its
+/* ---- Crate flat_telemetered: a point of another toll without reading and own value. Tags: 0 nothing, 1 real, 2 estimated, 3 own. Its
    consumption, or 1,000,000,000 and the number of the refusal added. */
 uint64_t seatpomelo_telemetered(uint32_t day, const uint32_t *holidays, size_t holiday_count, const uint8_t *tags, size_t tag_count,
                                 const uint64_t *values, size_t value_count, uint64_t day_flow, uint32_t factor);

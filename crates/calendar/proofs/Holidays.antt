@@ -15,8 +15,7 @@ use Rattle.numbers.specs.Sums.{at}
 use Rattle.numbers.specs.Lists.{both, every, has, rising}
 use Rattle.numbers.proofs.Sums.{lt-or-ge}
 use Rattle.numbers.proofs.Lists.{both-fst, both-snd}
-use Rattle.calendar.specs.Days.{LAST-DAY, MOST-HOLIDAYS, is-gas-day, holidays-right}
-use Rattle.calendar.specs.Calls.{calendar-right}
+use Rattle.calendar.specs.Days.{LAST-DAY, MOST-HOLIDAYS, is-gas-day, holidays-right, calendar-right}
 
 -- ---- a day among the holidays
 

@@ -1,3 +1,1 @@
 pub mod Holidays
-pub mod Months
-pub mod Masks

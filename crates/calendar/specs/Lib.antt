@@ -1,4 +1,2 @@
 pub mod Answers
 pub mod Days
-pub mod Months
-pub mod Calls

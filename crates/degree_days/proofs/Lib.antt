@@ -1,4 +1,1 @@
 pub mod Degrees
-pub mod Lists
-pub mod Winters
-pub mod Zones

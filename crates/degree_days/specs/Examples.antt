@@ -1,10 +1,8 @@
--- Document 01, "Examples": P4 and P10. Assumes nothing.
+-- Document 01, "Examples": P4. Assumes nothing.
 use mathlib.Core.Path.{_≡_, refl}
-use mathlib.Core.List.{[], _∷_, map}
 use lib.IntN.{pos}
 use Rattle.calendar.specs.Answers.{given, tested}
 use Rattle.degree_days.specs.Degrees.{temperatures-right, degree-days, degree-days-call}
-use Rattle.degree_days.specs.Zones.{zone-of, zone-call}
 
 -- "(tmin, tmax) (150, 200) 0; (140, 300) 10; (100, 200) 50; (50, 150) 200; (0, 100) 400"
 pub record P4 : Type 0 where
@@ -17,11 +15,3 @@ pub record P4 : Type 0 where
 pub p4 : P4
 unfolding degree-days-call degree-days temperatures-right tested
 p4 = record { warm = refl; mild = refl; even = refl; cool = refl; cold = refl }
-
--- "zones of 169, 170, 240, 380, 381: 1, 2, 3, 3, 4"
-abbrev pub P10 : Type 0
-P10 = map zone-call (169 ∷ 170 ∷ 240 ∷ 380 ∷ 381 ∷ []) ≡ map given (1 ∷ 2 ∷ 3 ∷ 3 ∷ 4 ∷ [])
-
-pub p10 : P10
-unfolding zone-call zone-of tested
-p10 = refl

@@ -1,4 +1,2 @@
 pub mod Degrees
-pub mod Temperature
-pub mod Zones
 pub mod Examples

@@ -5,10 +5,10 @@ ghost use lib.ListN.{length, take};
 ghost use Rattle.io.specs.Counts.{Counts};
 use cursor::Cursor;
 use cursor::Number;
+use history::ENTRIES;
+use history::Entry;
+use history::Reading;
 use supply::Amount;
-use telemetered::ENTRIES;
-use telemetered::Entry;
-use telemetered::Reading;
 
 // The bytes of an entry: its tag and its value.
 const ENTRY_BYTES: usize = 9;

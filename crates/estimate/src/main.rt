@@ -2,14 +2,11 @@
 mod input;
 mod output;
 
-use calendar::DayType;
-use calendar::DayTypeAnswer;
-use calendar::MonthAnswer;
 use cursor::Cursor;
 use cursor::MOST_LENT;
+use day_types::DayType;
+use day_types::DayTypeAnswer;
 use degree_days::DegreeDays;
-use degree_days::ProvinceAnswer;
-use degree_days::ZoneAnswer;
 use libc::STDIN_FILENO;
 use reading::SpreadAnswer;
 use supply::Amount;
@@ -19,6 +16,9 @@ use supply::Toll;
 use telemetered::OwnValue;
 use telemetered::TelemeteredAnswer;
 use type_2::ProfileAnswer;
+use working_days::MonthAnswer;
+use zones::ProvinceAnswer;
+use zones::ZoneAnswer;
 
 // The most bytes of input.
 const MOST_INPUT: usize = 1048576;
@@ -266,7 +266,7 @@ fn zone(s: &[u8], from: Cursor) -> Cursor {
     let hundredths = input::take_word(s, from);
     let next = hundredths.next;
     if next.ok {
-        print_zone(degree_days::zone_of(hundredths.value));
+        print_zone(zones::zone_of(hundredths.value));
     }
     next
 }
@@ -282,7 +282,7 @@ fn province(s: &[u8], from: Cursor) -> Cursor {
     let number = input::take_word(s, from);
     let next = number.next;
     if next.ok {
-        print_province(degree_days::province_of(number.value));
+        print_province(zones::province_of(number.value));
     }
     next
 }
@@ -338,7 +338,7 @@ fn day_type(s: &[u8], from: Cursor) -> Cursor {
     let n = holidays.count;
     let next = holidays.next;
     if next.ok {
-        print_day_type(calendar::day_type(day.value, &days[..n]));
+        print_day_type(day_types::day_type(day.value, &days[..n]));
     }
     next
 }
@@ -369,7 +369,7 @@ fn month(s: &[u8], from: Cursor) -> Cursor {
     let n = holidays.count;
     let next = holidays.next;
     if next.ok {
-        print_month(calendar::month_figures(day.value, &days[..n]));
+        print_month(working_days::month_figures(day.value, &days[..n]));
     }
     next
 }

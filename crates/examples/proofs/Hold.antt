@@ -9,6 +9,7 @@ use Rattle.point_day.specs.Calls.{verdict, join, cell-step, cell-in, line-right
 use Rattle.point_day.specs.Struct.{user-at, read, padded, laid, any, faults, taken, called}
 use Rattle.day_book.specs.Book.{run}
 use Rattle.degree_days.specs.Examples as degree-days
+use Rattle.zones.specs.Examples as zones
 use Rattle.telemetered.specs.Examples as telemetered
 use Rattle.type_1.specs.Examples as type-1
 use Rattle.examples.specs.Examples.{Holds, AllHold, report, last, E, p1, p2, two-read, p3, p4, p5, p6, p7, p8, p8-instead, fifteen-rows, p9, p10, examples}
@@ -60,7 +61,7 @@ p7-holds = type-1.p7
 
 p10-holds : Holds p10
 unfolding p10
-p10-holds = degree-days.p10
+p10-holds = zones.p10
 
 pub all-hold : AllHold examples
 unfolding examples

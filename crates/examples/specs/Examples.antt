@@ -9,7 +9,8 @@ use Rattle.proration.specs.Proration.{prorateZ}
 use Rattle.point_day.specs.Day.{User, Day, whole, net}
 use Rattle.point_day.specs.Calls.{Answer, within-tolerance, revision-assigned, rows-looked-at, Pair}
 use Rattle.point_day.specs.Struct.{read}
-use Rattle.degree_days.specs.Examples.{P4, P10}
+use Rattle.degree_days.specs.Examples.{P4}
+use Rattle.zones.specs.Examples.{P10}
 use Rattle.telemetered.specs.Examples.{P5, P6}
 use Rattle.type_1.specs.Examples.{P7}
 use Rattle.day_book.specs.Book.{Call, join, line, measure, allot, stand-in, revise, Calls, none, _then_, run, answer-after}
@@ -183,7 +184,7 @@ p9 =
       revisions = pos 101 ∷ pos 100 ∷ [];
     })
 
--- ---- P10: zones, stated in crate `degree_days`
+-- ---- P10: zones, stated in crate `zones`
 
 unfoldable pub p10 : Example
 p10 = stated "P10" P10

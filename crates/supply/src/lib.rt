@@ -1,12 +1,18 @@
-// Consumption of a supply point.
+// Consumption of a supply point: its amounts and contracted flows, and a new consumer's consumption.
 ghost use mathlib.Core.Path.{_≡_};
-ghost use Rattle.supply.specs.Amounts.{amount-right, consumption-said, limited};
+ghost use mathlib.Core.Bool.{true};
+ghost use Prim.Native.Nat.{_≤_};
+ghost use Rattle.supply.specs.Amounts.{THOUSAND, amount-right, flows-right, consumption-said, limited};
+ghost use Rattle.supply.specs.NewConsumer.{of-year, of-day, new-consumption};
 
 // 10^9 kWh: the most of a reading, a flow, a month's consumption and a computed consumption.
 pub const LIMIT: u64 = 1000000000;
 
 // The parts of f_c and C_f.
 pub const THOUSAND: u64 = 1000;
+
+// What a new consumer's yearly flow is divided by.
+const NEW_DAYS: u64 = 210;
 
 // An amount that may be missing.
 pub enum Amount {
@@ -50,4 +56,54 @@ pub fn limited_to(kwh: u64) -> ConsumptionAnswer
         return ConsumptionAnswer::Refused(calendar::TOO_LARGE);
     }
     ConsumptionAnswer::Kwh(kwh)
+}
+
+// Whether the contracted flows are in their ranges.
+pub fn are_flows(flows: Flows) -> bool
+    ensures { λ r. ⌜ r ≡ flows-right flows ⌝ }
+{
+    let year = flows.year;
+    let day = flows.day;
+    if !is_amount(year) {
+        return false;
+    }
+    if !is_amount(day) {
+        return false;
+    }
+    flows.factor as u64 <= THOUSAND
+}
+
+// A new consumer's daily consumption from the yearly flow.
+fn from_year(year: Amount) -> Amount
+    ensures { λ r. ⌜ r ≡ of-year year ⌝ }
+{
+    match year {
+        Amount::Missing => Amount::Missing,
+        Amount::Known(q) => Amount::Known(numbers::nearest(q, NEW_DAYS)),
+    }
+}
+
+// The same from the daily flow.
+fn from_day(factor: u32, day: Amount) -> Amount
+    requires { ⌜ (amount-right day ≡ true) × (factor ≤ THOUSAND) ⌝ }
+    ensures { λ r. ⌜ r ≡ of-day factor day ⌝ }
+{
+    match day {
+        Amount::Missing => Amount::Missing,
+        Amount::Known(q) => Amount::Known(numbers::nearest(q * factor as u64, THOUSAND)),
+    }
+}
+
+// A new consumer's consumption.
+pub fn new_consumption(flows: Flows) -> Amount
+    requires { ⌜ flows-right flows ≡ true ⌝ }
+    ensures { λ r. ⌜ r ≡ new-consumption flows ⌝ }
+{
+    let toll = flows.toll;
+    let year = flows.year;
+    let day = flows.day;
+    match toll {
+        Toll::Toll34 => from_year(year),
+        Toll::OtherToll => from_day(flows.factor, day),
+    }
 }

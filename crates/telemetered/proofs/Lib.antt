@@ -1,5 +1,1 @@
-pub mod Hits
-pub mod Searching
 pub mod Telemetering
-pub mod Laws
-pub mod Flats

@@ -11,15 +11,17 @@ use Rattle.numbers.specs.Sums.{pick}
 use Rattle.numbers.specs.Lists.{both, every, rising}
 use Rattle.numbers.proofs.Lists.{both-fst, both-snd}
 use Rattle.calendar.specs.Answers.{refused, given, NO-BASIS}
-use Rattle.calendar.specs.Calls.{calendar-right}
+use Rattle.calendar.specs.Days.{calendar-right}
 use Rattle.calendar.proofs.Holidays.{calendar-rising}
 use Rattle.supply.specs.Amounts.{amount-right, flows-right}
-use Rattle.telemetered.specs.History.{ENTRIES, Dated, Metered, entry-right, history-right, last-three, sum-of, mean-value, looked-at, is-empty, is-new, found-in}
-use Rattle.telemetered.specs.Telemetered.{own-right, new-consumption, with-basis, from-history, from-found, values-right}
+use Rattle.history.specs.History.{ENTRIES, Dated, Metered, entry-right, history-right, last-three, sum-of, mean-value, looked-at, is-empty, is-new}
+use Rattle.last_readings.specs.Search.{found-in}
+use Rattle.telemetered.specs.Telemetered.{own-right, with-basis, from-history, from-found, values-right}
+use Rattle.supply.specs.NewConsumer.{new-consumption}
 use Rattle.supply.specs.declared.Amount.{Amount}
 use Rattle.telemetered.specs.declared.OwnValue.{OwnValue}
 use Rattle.supply.specs.declared.Flows.{Flows}
-use Rattle.telemetered.specs.declared.Entry.{Entry}
+use Rattle.history.specs.declared.Entry.{Entry}
 
 -- ---- what the tests tell
 

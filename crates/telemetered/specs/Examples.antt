@@ -5,18 +5,19 @@ use Rattle.numbers.specs.Nearest.{nearest}
 use Rattle.numbers.specs.Sums.{total}
 use Rattle.numbers.specs.Lists.{every, has, rising}
 use Rattle.calendar.specs.Answers.{given, tested}
-use Rattle.calendar.specs.Days.{holidays-right, day-type}
-use Rattle.calendar.specs.Calls.{calendar-right}
+use Rattle.calendar.specs.Days.{holidays-right, calendar-right}
+use Rattle.day_types.specs.DayTypes.{day-type}
 use Rattle.supply.specs.Amounts.{flows-right}
-use Rattle.telemetered.specs.History.{history-right, dated, real-readings, matching, last-three, sum-of, mean-value, looked-at, is-new}
-use Rattle.telemetered.specs.Telemetered.{new-consumption, from-history, values-right, telemetered}
+use Rattle.history.specs.History.{history-right, dated, real-readings, matching, last-three, sum-of, mean-value, looked-at, is-new}
+use Rattle.supply.specs.NewConsumer.{new-consumption}
+use Rattle.telemetered.specs.Telemetered.{from-history, values-right, telemetered}
 use Rattle.supply.specs.declared.Amount.the-variants.{Missing, Known}
 use Rattle.telemetered.specs.declared.OwnValue.the-variants.{NotSent}
 use Rattle.supply.specs.declared.Toll.the-variants.{Toll34, OtherToll}
 use Rattle.supply.specs.declared.Flows.{Flows}
-use Rattle.telemetered.specs.declared.Reading.{Reading}
-use Rattle.telemetered.specs.declared.Reading.the-variants.{Nothing, Real, Estimated, Own}
-use Rattle.telemetered.specs.declared.Entry.{Entry}
+use Rattle.history.specs.declared.Reading.{Reading}
+use Rattle.history.specs.declared.Reading.the-variants.{Nothing, Real, Estimated, Own}
+use Rattle.history.specs.declared.Entry.{Entry}
 
 abbrev entry : Reading → Entry
 entry r = record { reading = r }

@@ -1,4 +1,2 @@
-pub mod History
 pub mod Telemetered
-pub mod Flat
 pub mod Examples

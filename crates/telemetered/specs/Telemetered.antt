@@ -1,25 +1,24 @@
 -- Document 01, "Telemetered". Assumes nothing.
 use mathlib.Core.Bool.{Bool, true, not}
 use mathlib.Core.List.{List, [], _∷_}
-use Prim.Native.Nat.{ℕ, _*_}
+use Prim.Native.Nat.{ℕ}
 use lib.Dec.{eqb}
 use lib.ListN.{take}
 use Rattle.numbers.specs.Nearest.{nearest}
 use Rattle.numbers.specs.Sums.{pick}
 use Rattle.numbers.specs.Lists.{both}
 use Rattle.calendar.specs.Answers.{Answer, refused, given, _when_, tested, OUT-OF-RANGE, NO-BASIS}
-use Rattle.calendar.specs.Calls.{calendar-right}
-use Rattle.supply.specs.Amounts.{THOUSAND, in-limit, amount-right, flows-right}
-use Rattle.telemetered.specs.History.{Dated, history-right, dated, last-three, mean-value, looked-at, is-empty, is-new}
+use Rattle.calendar.specs.Days.{calendar-right}
+use Rattle.supply.specs.Amounts.{in-limit, amount-right, flows-right}
+use Rattle.supply.specs.NewConsumer.{new-consumption}
+use Rattle.history.specs.History.{Dated, history-right, dated, last-three, mean-value, looked-at, is-empty, is-new}
 use Rattle.supply.specs.declared.Amount.{Amount}
 use Rattle.supply.specs.declared.Amount.the-variants.{Missing, Known}
 use Rattle.telemetered.specs.declared.OwnValue.{OwnValue}
 use Rattle.telemetered.specs.declared.OwnValue.the-variants.{NotSent, Sent}
-use Rattle.supply.specs.declared.Toll.{Toll}
-use Rattle.supply.specs.declared.Toll.the-variants.{Toll34, OtherToll}
 use Rattle.supply.specs.declared.Flows.{Flows}
-use Rattle.telemetered.specs.declared.Entry.{Entry}
-use Rattle.telemetered.specs.declared.Found.{Found}
+use Rattle.history.specs.declared.Entry.{Entry}
+use Rattle.last_readings.specs.declared.Found.{Found}
 use Rattle.telemetered.specs.declared.TelemeteredAnswer.{TelemeteredAnswer}
 use Rattle.telemetered.specs.declared.TelemeteredAnswer.the-variants.{Refused, Consumption}
 
@@ -36,27 +35,6 @@ value-to-use (Sent v) = Known v
 abbrev pub own-right : OwnValue → Bool
 own-right NotSent = true
 own-right (Sent v) = in-limit v
-
--- the days that a new consumer's yearly flow is divided by
-abbrev pub NEW-DAYS : ℕ
-NEW-DAYS = 210
-
--- Q_a / 210, and Q_d × f_c
-abbrev pub of-year : Amount → Amount
-of-year Missing = Missing
-of-year (Known q) = Known (nearest q NEW-DAYS)
-
-abbrev pub of-day : ℕ → Amount → Amount
-of-day f Missing = Missing
-of-day f (Known q) = Known (nearest (q * f) THOUSAND)
-
--- "for a new consumer, Q_a / 210 (toll 3.4) or Q_d × f_c"
-abbrev pub by-toll : Toll → Flows → Amount
-by-toll Toll34 f = of-year (f .year)
-by-toll OtherToll f = of-day (f .factor) (f .day)
-
-unfoldable pub new-consumption : Flows → Amount
-new-consumption f = by-toll (f .toll) f
 
 -- an amount, or no basis
 abbrev pub with-basis : Amount → ℕ → Answer Estimate

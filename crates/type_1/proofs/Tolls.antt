@@ -12,14 +12,15 @@ use Rattle.numbers.specs.Sums.{pick}
 use Rattle.numbers.specs.Lists.{both, every, rising}
 use Rattle.numbers.proofs.Sums.{cases}
 use Rattle.numbers.proofs.Lists.{both-fst, both-snd}
-use Rattle.calendar.specs.Days.{LAST-DAY, is-gas-day, is-working}
-use Rattle.calendar.specs.Months.{month-of, last-year-days, N-lab, N-res}
-use Rattle.calendar.specs.Calls.{calendar-right}
+use Rattle.calendar.specs.Days.{LAST-DAY, is-gas-day, calendar-right}
+use Rattle.day_types.specs.DayTypes.{is-working}
+use Rattle.months.specs.Months.{month-of, last-year-days}
+use Rattle.working_days.specs.WorkingDays.{N-lab, N-res}
 use Rattle.calendar.proofs.Holidays.{calendar-day, calendar-rising}
-use Rattle.calendar.proofs.Months.{month-length, month-holds}
-use Rattle.calendar.proofs.Masks.{some-working, some-other, working-all}
-use Rattle.degree_days.specs.Temperature.{MOST-DAYS, MOST-DEGREES, is-degrees}
-use Rattle.degree_days.proofs.Winters.{Month}
+use Rattle.months.proofs.Months.{month-length, month-holds}
+use Rattle.working_days.proofs.Masks.{some-working, some-other, working-all}
+use Rattle.coefficients.specs.Temperature.{MOST-DAYS, MOST-DEGREES, is-degrees}
+use Rattle.coefficients.proofs.Winters.{Month}
 use Rattle.supply.specs.Amounts.{THOUSAND, MOST-C-c, amount-right}
 use Rattle.type_1.specs.Type1.{last-days-right, toll-34-right, sharing, other-right}
 use Rattle.supply.specs.declared.Amount.{Amount}

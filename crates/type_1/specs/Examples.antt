@@ -7,11 +7,13 @@ use Rattle.numbers.specs.Nearest.{nearest}
 use Rattle.numbers.specs.Sums.{sum}
 use Rattle.numbers.specs.Lists.{every, has, rising}
 use Rattle.calendar.specs.Answers.{Answer, given, tested}
-use Rattle.calendar.specs.Days.{holidays-right, day-type, is-working}
-use Rattle.calendar.specs.Months.{month-days, length-of, month-from, month-of, working-mask, N-lab, N-res}
-use Rattle.calendar.specs.Calls.{calendar-right}
+use Rattle.calendar.specs.Days.{holidays-right, calendar-right}
+use Rattle.day_types.specs.DayTypes.{day-type, is-working}
+use Rattle.months.specs.Months.{month-days, length-of, month-from, month-of}
+use Rattle.working_days.specs.WorkingDays.{working-mask, N-lab, N-res}
 use Rattle.supply.specs.Amounts.{limited}
-use Rattle.type_1.specs.Type1.{month-other, day-of, other-right, other-toll}
+use Rattle.month_consumption.specs.MonthConsumption.{month-other, day-of}
+use Rattle.type_1.specs.Type1.{other-right, other-toll}
 use Rattle.supply.specs.declared.Amount.the-variants.{Missing, Known}
 
 -- "other toll, June 2016, no holidays, 10,000 last year, C_c 10,000, C_f 850: N_lab 22, working day 386, others 188".

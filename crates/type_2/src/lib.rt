@@ -5,8 +5,8 @@ ghost use Rattle.type_2.specs.Type2.{type-2-right, type-2, year-right, p
 use calendar::NO_BASIS;
 use calendar::OUT_OF_RANGE;
 use calendar::TOO_LARGE;
-use degree_days::FEWEST_DAYS;
-use degree_days::MOST_DAYS;
+use coefficients::FEWEST_DAYS;
+use coefficients::MOST_DAYS;
 use supply::ConsumptionAnswer;
 
 pub enum ProfileAnswer {
@@ -39,10 +39,10 @@ fn is_type_2(
     if TRILLION < profile {
         return false;
     }
-    if !degree_days::are_degrees(g) {
+    if !coefficients::are_degrees(g) {
         return false;
     }
-    degree_days::are_winters(winters, first, second)
+    coefficients::are_winters(winters, first, second)
 }
 
 // The consumption of Type 2 consumers of one profile, on a gas day with g degree days, after one or two winters.
@@ -63,8 +63,8 @@ pub fn type_2(
     if TRILLION < product {
         return ConsumptionAnswer::Refused(TOO_LARGE);
     }
-    let mean = degree_days::mean_of_winters(winters, first, second);
-    let correction = degree_days::correction_of(g, mean);
+    let mean = coefficients::mean_of_winters(winters, first, second);
+    let correction = coefficients::correction_of(g, mean);
     supply::limited_to(numbers::nearest(product * correction.top, correction.bottom * KILO))
 }
 

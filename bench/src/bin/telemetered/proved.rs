@@ -2,7 +2,7 @@
 
 use crate::cases::Case;
 
-#[link(name = "telemetered", kind = "static")]
+#[link(name = "flat_telemetered", kind = "static")]
 extern "C" {
     // A Rattle slice is passed as a pointer and a length.
     fn seatpomelo_telemetered(

@@ -2,7 +2,7 @@
 use mathlib.Core.Path.{sym, _∙_}
 use borrow.Author.Needs.{needs}
 use borrow.Author.Tests.{not-true, not-false}
-use Rattle.calendar.specs.Calls.{calendar-right}
+use Rattle.calendar.specs.Days.{calendar-right}
 use Rattle.calendar.proofs.is_calendar.Statement.{statement}
 use Rattle.calendar.proofs.is_calendar.Tie as tie
 

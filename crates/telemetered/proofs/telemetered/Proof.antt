@@ -3,7 +3,7 @@ use mathlib.Core.Path.{_≡_, refl, sym, ap, _∙_}
 use lib.ListN.{take}
 use borrow.Author.Tests.{not-true, not-false}
 use borrow.Author.Needs.{needs}
-use Rattle.telemetered.specs.History.{dated}
+use Rattle.history.specs.History.{dated}
 use Rattle.telemetered.specs.Telemetered.{from-found, value-to-use, first-of, telemetered}
 use Rattle.calendar.specs.Answers.{tested}
 use Rattle.supply.specs.declared.Amount.the-variants.{Missing, Known}

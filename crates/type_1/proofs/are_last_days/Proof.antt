@@ -2,8 +2,8 @@
 use mathlib.Core.Path.{_≡_, sym, ap, _∙_}
 use borrow.Author.Tests.{eq-eqb, ne-eqb}
 use borrow.Author.Needs.{needs}
-use Rattle.calendar.specs.Months.{month-of, last-year-days}
-use Rattle.calendar.proofs.Months.{month-holds}
+use Rattle.months.specs.Months.{month-of, last-year-days}
+use Rattle.months.proofs.Months.{month-holds}
 use Rattle.type_1.specs.Type1.{last-days-right}
 use Rattle.type_1.proofs.are_last_days.Statement.{statement}
 use Rattle.type_1.proofs.are_last_days.Tie as tie

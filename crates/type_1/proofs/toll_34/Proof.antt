@@ -3,12 +3,13 @@ use mathlib.Core.Path.{_≡_, sym, ap, ap₂, _∙_}
 use native.Mathlib.Omega.{arith}
 use borrow.Author.Tests.{not-true, not-false}
 use borrow.Author.Needs.{needs}
-use Rattle.type_1.specs.Type1.{SmallBasis, month-34, day-of, toll-34}
+use Rattle.month_consumption.specs.MonthConsumption.{SmallBasis, month-34, day-of}
+use Rattle.type_1.specs.Type1.{toll-34}
 use Rattle.calendar.specs.Answers.{tested}
-use Rattle.calendar.proofs.Months.{month-holds}
-use Rattle.degree_days.specs.Temperature.{correction, C-temp1}
-use Rattle.degree_days.proofs.Winters.{mean-sound, corrects}
-use Rattle.type_1.proofs.Bases.{small-34}
+use Rattle.months.proofs.Months.{month-holds}
+use Rattle.coefficients.specs.Temperature.{correction, C-temp1}
+use Rattle.coefficients.proofs.Winters.{mean-sound, corrects}
+use Rattle.month_consumption.proofs.Bases.{small-34}
 use Rattle.type_1.proofs.Tolls.{Right34, right-34}
 use Rattle.type_1.proofs.toll_34.Statement.{statement}
 use Rattle.type_1.proofs.toll_34.Tie as tie

@@ -8,8 +8,8 @@ use borrow.Author.Tests.{lt-ltb, le-ltb, not-true, not-false}
 use borrow.Author.Needs.{needs}
 use Rattle.numbers.specs.Nearest.{nearest}
 use Rattle.calendar.specs.Answers.{tested}
-use Rattle.degree_days.specs.Temperature.{correction, C-temp2, Corrects}
-use Rattle.degree_days.proofs.Winters.{winters-sound, corrects}
+use Rattle.coefficients.specs.Temperature.{correction, C-temp2, Corrects}
+use Rattle.coefficients.proofs.Winters.{winters-sound, corrects}
 use Rattle.supply.specs.Amounts.{limited}
 use Rattle.type_2.specs.Type2.{TRILLION, KILO, type-2-right, type-2}
 use Rattle.type_2.proofs.Profiling.{Right2, right-2}
