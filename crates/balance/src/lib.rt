@@ -134,7 +134,7 @@ fn share_by<'a>(
     columns::keys_of(users, keys);
     let all = weigh(consumption, losses, ws);
     let whole = proration::weight_total(ws);
-    proration::prorate_signed(balance, ws, whole, keys, shares);
+    split::prorate_signed(balance, ws, whole, keys, shares);
     all
 }
 
@@ -174,9 +174,9 @@ fn spread(share: i64, ws: [u64; KINDS], cells: &mut [i64])
     let whole = proration::weight_total(&ws);
     if whole == 0 {
         let first: [u64; KINDS] = [1, 0, 0, 0, 0];
-        proration::prorate_signed(share, &first, 1, &keys, cells);
+        split::prorate_signed(share, &first, 1, &keys, cells);
     } else {
-        proration::prorate_signed(share, &ws, whole, &keys, cells);
+        split::prorate_signed(share, &ws, whole, &keys, cells);
     }
 }
 

@@ -118,7 +118,7 @@ fn share_by(
     keys_of(users, keys);
     sizes_of(amounts, weights);
     let whole = proration::weight_total(weights);
-    proration::prorate_signed(amount, weights, whole, keys, shares);
+    split::prorate_signed(amount, weights, whole, keys, shares);
 }
 
 // An amount prorated over users by the sizes of these amounts; later shares stay.
