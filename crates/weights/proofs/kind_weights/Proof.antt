@@ -1,9 +1,9 @@
--- `balance::kind_weights` meets its contract: five cells are the weights of a user's kinds. Assumes nothing.
+-- `weights::kind_weights` meets its contract: five cells are the weights of a user's kinds. Assumes nothing.
 use Rattle.proration.specs.Proration.{WEIGHT}
-use Rattle.balance.proofs.Weighing.{weights-are, bounded-five}
+use Rattle.weights.proofs.Weighing.{weights-are, bounded-five}
 use borrow.Author.Needs.{needs}
-use Rattle.balance.proofs.kind_weights.Statement.{statement}
-use Rattle.balance.proofs.kind_weights.Tie as tie
+use Rattle.weights.proofs.kind_weights.Statement.{statement}
+use Rattle.weights.proofs.kind_weights.Tie as tie
 
 mul-i : tie.Need-mul-i
 mul-i c = search needs

@@ -9,7 +9,6 @@ use lib.IntN.{ℤ, pos, natAbs, _+ℤ_}
 use lib.Signed.{nonNeg}
 use lib.ListN.{length, getD, drop, length-map}
 use lib.Seq.{getD-take, getD-drop}
-use borrow.Author.Tests.{eq-eqb, ne-eqb}
 use mir.Syntax.{w64}
 use mir.Val.{ofZ, toZ, SFits, Fits}
 use Rattle.numbers.specs.Sums.{pick, atZ, total, Bounded}
@@ -18,15 +17,13 @@ use Rattle.numbers.specs.Amounts.{Between}
 use Rattle.numbers.proofs.Amounts.{pos-is}
 use Rattle.proration.specs.Proration.{WEIGHT}
 use Rattle.point_day.specs.Limits.{USERS, CELLS, KINDS, LIMIT}
-use Rattle.point_day.specs.Calls.{by-basis, or-kind-1, kinds, with-share}
+use Rattle.point_day.specs.Calls.{by-basis}
 use Rattle.point_day.specs.Struct.{kinds-of}
-use Rattle.proration.proofs.Signs.{lengthZ}
 use Rattle.point_day.proofs.Arrays.{Full}
-use Rattle.point_day.proofs.Wholes.{length-weights}
 use Rattle.state.proofs.Cells.{between-sign, low-size}
 use Rattle.state.proofs.Ranges.{added-is, added-fits, added-cast}
 use Rattle.state.proofs.Totals.{kinds-long}
-use Rattle.balance.specs.Slots.{metered}
+use Rattle.weights.specs.Metered.{metered}
 
 -- ---- one cell
 
@@ -104,21 +101,9 @@ module _ (cs ls : List ℤ) (s : ℕ) (c : length cs ≡ CELLS) (l : length ls �
       → d ≡ at-cell (KINDS * s + 3) → e ≡ at-cell (KINDS * s + 4) → a ∷ b ∷ c ∷ d ∷ e ∷ [] ≡ by-basis all (metered cs ls s)
   weights-are all p q r s t = five-eq p q r s t ∙ basis-is all
 
-  metered-full : Full (metered cs ls s)
+  pub metered-full : Full (metered cs ls s)
   metered-full = record {
     consumption = length-map (kinds-of s cs) natAbs ∙ kinds-long cs s (omega arith);
     losses = length-map (kinds-of s ls) natAbs ∙ kinds-long ls s (omega arith);
     balance = refl;
   }
-
-  -- a share over the kinds is five cells
-  pub share-long : (all : Bool) (z : ℤ) → length (with-share all (metered cs ls s) z .balance) ≡ KINDS
-  share-long all z = lengthZ z (or-kind-1 (by-basis all (metered cs ls s))) kinds ∙ length-weights all (metered cs ls s) metered-full
-
--- ---- the weights that count
-
-pub none-weigh : (ws : List ℕ) → total ws ≡ 0 → 1 ∷ 0 ∷ 0 ∷ 0 ∷ 0 ∷ [] ≡ or-kind-1 ws
-none-weigh ws e = rw (eq-eqb (total ws) 0 e)
-
-pub some-weigh : (ws : List ℕ) → (total ws ≡ 0 → ⊥) → ws ≡ or-kind-1 ws
-some-weigh ws h = rw (ne-eqb (total ws) 0 h)

@@ -1,10 +1,10 @@
--- `balance::weigh` meets its contract: the basis is decided over all users at once. Assumes nothing.
+-- `weights::weigh` meets its contract: the basis is decided over all users at once. Assumes nothing.
 use mathlib.Core.Bool.{false}
 use lib.ListN.{length}
-use Rattle.balance.proofs.Sharing.{weights-right, by-estimated, by-all}
+use Rattle.weights.proofs.Basis.{weights-right, by-estimated, by-all}
 use borrow.Author.Needs.{needs}
-use Rattle.balance.proofs.weigh.Statement.{statement}
-use Rattle.balance.proofs.weigh.Tie as tie
+use Rattle.weights.proofs.weigh.Statement.{statement}
+use Rattle.weights.proofs.weigh.Tie as tie
 
 weights-by-requires : tie.Need-weights-by-requires
 weights-by-requires c κs = search needs

@@ -1,14 +1,15 @@
--- `balance::share_out` meets its contract. Assumes nothing.
+-- `shares::share_out` meets its contract. Assumes nothing.
 use mathlib.Core.Path.{sym, ap, _∙_}
 use mathlib.Core.List.{_++_}
 use lib.ListN.{drop}
 use Rattle.numbers.proofs.Amounts.{back}
 use Rattle.proration.proofs.Prorated.{take-long}
-use Rattle.balance.specs.Slots.{by-all-kinds, shares-of}
+use Rattle.weights.specs.Metered.{by-all-kinds}
+use Rattle.shares.specs.Shared.{shares-of}
 use native.Mathlib.Omega.{arith}
 use borrow.Author.Needs.{needs}
-use Rattle.balance.proofs.share_out.Statement.{statement}
-use Rattle.balance.proofs.share_out.Tie as tie
+use Rattle.shares.proofs.share_out.Statement.{statement}
+use Rattle.shares.proofs.share_out.Tie as tie
 
 column-requires : tie.Need-column-requires
 column-requires c κs = search needs

@@ -1,4 +1,4 @@
--- `balance::spread` meets its contract: by the kinds' weights, or all to kind 1. Assumes nothing.
+-- `shares::spread` meets its contract: by the kinds' weights, or all to kind 1. Assumes nothing.
 use mathlib.Core.Path.{_≡_, refl, sym, ap, ap₂, _∙_}
 use mathlib.Core.List.{[], _∷_, _++_, append-nil}
 use lib.ListN.{length, drop-of-length-le}
@@ -6,11 +6,12 @@ use Rattle.numbers.specs.Sums.{total}
 use Rattle.numbers.proofs.Amounts.{back}
 use Rattle.proration.specs.Proration.{WEIGHT, prorateZ}
 use Rattle.point_day.specs.Calls.{kinds}
-use Rattle.balance.proofs.Weighing.{bounded-five, none-weigh, some-weigh}
+use Rattle.weights.proofs.Weighing.{bounded-five}
+use Rattle.shares.proofs.Sharing.{none-weigh, some-weigh}
 use native.Mathlib.Omega.{arith}
 use borrow.Author.Needs.{needs}
-use Rattle.balance.proofs.spread.Statement.{statement}
-use Rattle.balance.proofs.spread.Tie as tie
+use Rattle.shares.proofs.spread.Statement.{statement}
+use Rattle.shares.proofs.spread.Tie as tie
 
 slice-aggregate-weight-total : tie.Need-slice-aggregate-weight-total
 slice-aggregate-weight-total c = search needs

@@ -1,9 +1,9 @@
--- `balance::user_weight` meets its contract. Assumes nothing.
+-- `weights::user_weight` meets its contract. Assumes nothing.
 use mathlib.Core.Path.{ap, _∙_}
 use Rattle.numbers.specs.Sums.{total}
 use borrow.Author.Needs.{needs}
-use Rattle.balance.proofs.user_weight.Statement.{statement}
-use Rattle.balance.proofs.user_weight.Tie as tie
+use Rattle.weights.proofs.user_weight.Statement.{statement}
+use Rattle.weights.proofs.user_weight.Tie as tie
 
 kind-weights-requires : tie.Need-kind-weights-requires
 kind-weights-requires c κs = search needs

@@ -1,9 +1,9 @@
--- `balance::cell` meets its contract: no sum leaves 64 bits. Assumes nothing.
-use Rattle.balance.proofs.Weighing.{cell-fits, cell-cast, cell-is, cell-small}
+-- `weights::cell` meets its contract: no sum leaves 64 bits. Assumes nothing.
+use Rattle.weights.proofs.Weighing.{cell-fits, cell-cast, cell-is, cell-small}
 use native.Mathlib.Omega.{arith}
 use borrow.Author.Needs.{needs}
-use Rattle.balance.proofs.cell.Statement.{statement}
-use Rattle.balance.proofs.cell.Tie as tie
+use Rattle.weights.proofs.cell.Statement.{statement}
+use Rattle.weights.proofs.cell.Tie as tie
 
 mul-result : tie.Need-mul-result
 mul-result c = search needs

@@ -1,15 +1,15 @@
--- `balance::weights_by` meets its contract: a buffer that is filled slot by slot. Assumes nothing.
+-- `weights::weights_by` meets its contract: a buffer that is filled slot by slot. Assumes nothing.
 use mathlib.Core.Path.{_≡_, sym, ap, _∙_}
 use Rattle.numbers.specs.Sums.{table, total}
 use Prim.Native.Nat.{_-_, _≤_}
 use lib.ListN.{length}
 use Rattle.numbers.proofs.Filled.{Filled, fill-none, fill-step, fill-all}
 use Rattle.point_day.specs.Calls.{by-basis}
-use Rattle.balance.specs.Slots.{metered}
+use Rattle.weights.specs.Metered.{metered}
 use borrow.Author.Needs.{needs}
 use native.Mathlib.Omega.{arith}
-use Rattle.balance.proofs.weights_by.Statement.{statement}
-use Rattle.balance.proofs.weights_by.Tie as tie
+use Rattle.weights.proofs.weights_by.Statement.{statement}
+use Rattle.weights.proofs.weights_by.Tie as tie
 
 abbrev Inv-loop : tie.InvT-loop
 Inv-loop all consumption losses ws₀ s₀ ws s = (s ≤ length ws₀) × Filled (λ k. total (by-basis all (metered consumption losses k))) ws₀ s ws

@@ -1,7 +1,7 @@
--- `balance::cell_if` meets its contract. Assumes nothing.
+-- `weights::cell_if` meets its contract. Assumes nothing.
 use borrow.Author.Needs.{needs}
-use Rattle.balance.proofs.cell_if.Statement.{statement}
-use Rattle.balance.proofs.cell_if.Tie as tie
+use Rattle.weights.proofs.cell_if.Statement.{statement}
+use Rattle.weights.proofs.cell_if.Tie as tie
 
 cell-requires : tie.Need-cell-requires
 cell-requires c κs = search needs

@@ -1,14 +1,15 @@
--- `balance::share_by` meets its contract. Assumes nothing.
+-- `shares::share_by` meets its contract. Assumes nothing.
 use mathlib.Core.Path.{_≡_, ap, _∙_}
 use lib.ListN.{length, take}
 use lib.Seq.{length-take-le}
 use Rattle.numbers.proofs.Amounts.{back}
-use Rattle.balance.specs.Slots.{by-all-kinds}
-use Rattle.balance.proofs.Sharing.{weights-right, shares-are}
+use Rattle.weights.specs.Metered.{by-all-kinds}
+use Rattle.weights.proofs.Basis.{weights-right}
+use Rattle.shares.proofs.Sharing.{shares-are}
 use native.Mathlib.Omega.{arith}
 use borrow.Author.Needs.{needs}
-use Rattle.balance.proofs.share_by.Statement.{statement}
-use Rattle.balance.proofs.share_by.Tie as tie
+use Rattle.shares.proofs.share_by.Statement.{statement}
+use Rattle.shares.proofs.share_by.Tie as tie
 
 keys-of-requires : tie.Need-keys-of-requires
 keys-of-requires c κs = omega (arith, c .before .keys-of-arg .given .0, c .before .before .before .before .pre .1 .1, c .before .before .before .before .pre .1 .2)
