@@ -1,9 +1,9 @@
--- `reading::is_in_range` meets its contract: the tests in order. Assumes nothing.
+-- `period::is_in_range` meets its contract: the tests in order. Assumes nothing.
 use native.Mathlib.Omega.{arith}
-use Rattle.reading.proofs.Outcomes.{too-large, no-day, too-many, by-weights}
+use Rattle.period.proofs.Ranges.{too-large, no-day, too-many, by-weights}
 use borrow.Author.Needs.{needs}
-use Rattle.reading.proofs.is_in_range.Statement.{statement}
-use Rattle.reading.proofs.is_in_range.Tie as tie
+use Rattle.period.proofs.is_in_range.Statement.{statement}
+use Rattle.period.proofs.is_in_range.Tie as tie
 
 returns : tie.Need-returns
 returns c = too-large (c .before .args .reading) (c .before .args .weights .now) (omega arith)

@@ -21,8 +21,8 @@ use Rattle.point_day.specs.Day.{no-more}
 use Rattle.columns.specs.Rooms.{ROOM}
 use Rattle.columns.proofs.Shared.{sizes-long, sizes-bounded}
 use Rattle.numbers.proofs.Lists.{both-fst, both-snd}
-use Rattle.reading.specs.Spread.{in-range, days, parts}
-use Rattle.reading.proofs.Outcomes.{InRange, in-range-facts}
+use Rattle.period.specs.Period.{in-range, days, parts}
+use Rattle.period.proofs.Ranges.{InRange, in-range-facts}
 
 -- weights in range, by place
 within-range : (ws : List ℤ) → every (no-more AMOUNT) ws ≡ true → (i : ℕ) → Within AMOUNT (atZ ws i)

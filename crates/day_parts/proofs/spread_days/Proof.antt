@@ -1,11 +1,11 @@
--- `reading::spread_days` meets its contract. Assumes nothing.
+-- `day_parts::spread_days` meets its contract. Assumes nothing.
 use mathlib.Core.Path.{sym}
 use native.Mathlib.Omega.{arith}
-use Rattle.reading.proofs.Outcomes.{in-range-facts}
-use Rattle.reading.proofs.Periods.{scratch-long}
+use Rattle.period.proofs.Ranges.{in-range-facts}
+use Rattle.day_parts.proofs.Periods.{scratch-long}
 use borrow.Author.Needs.{needs}
-use Rattle.reading.proofs.spread_days.Statement.{statement}
-use Rattle.reading.proofs.spread_days.Tie as tie
+use Rattle.day_parts.proofs.spread_days.Statement.{statement}
+use Rattle.day_parts.proofs.spread_days.Tie as tie
 
 each-day-requires : tie.Need-each-day-requires
 each-day-requires c κs = search needs

@@ -1,4 +1,4 @@
--- `reading::write_days` meets its contract. Assumes nothing.
+-- `period::write_days` meets its contract. Assumes nothing.
 use mathlib.Core.Path.{_≡_, ap, _∙_}
 use Rattle.numbers.specs.Sums.{table}
 use Prim.Native.Nat.{suc, _-_, _≤_}
@@ -7,8 +7,8 @@ use lib.ListN.{length}
 use Rattle.numbers.proofs.Filled.{Filled, fill-none, fill-step, fill-all}
 use borrow.Author.Needs.{needs}
 use native.Mathlib.Omega.{arith}
-use Rattle.reading.proofs.write_days.Statement.{statement}
-use Rattle.reading.proofs.write_days.Tie as tie
+use Rattle.period.proofs.write_days.Statement.{statement}
+use Rattle.period.proofs.write_days.Tie as tie
 
 abbrev Inv-loop : tie.InvT-loop
 Inv-loop keys₀ i₀ keys i = (i ≤ length keys₀) × Filled suc keys₀ i keys

@@ -1,4 +1,4 @@
--- `reading::prorate_days` meets its contract. Assumes nothing.
+-- `day_parts::prorate_days` meets its contract. Assumes nothing.
 use mathlib.Core.Path.{_≡_}
 use mathlib.Core.List.{List, map, _++_}
 use Prim.Native.Nat.{ℕ}
@@ -6,11 +6,11 @@ use native.Mathlib.Omega.{arith}
 use lib.IntN.{natAbs}
 use lib.ListN.{length, drop}
 use Rattle.columns.proofs.Shared.{fitted}
-use Rattle.reading.proofs.Periods.{weight-room, reading-fits, total-asks, split-asks, parts-are}
-use Rattle.reading.proofs.Outcomes.{in-range-facts}
+use Rattle.day_parts.proofs.Periods.{weight-room, reading-fits, total-asks, split-asks, parts-are}
+use Rattle.period.proofs.Ranges.{in-range-facts}
 use borrow.Author.Needs.{needs}
-use Rattle.reading.proofs.prorate_days.Statement.{statement}
-use Rattle.reading.proofs.prorate_days.Tie as tie
+use Rattle.day_parts.proofs.prorate_days.Statement.{statement}
+use Rattle.day_parts.proofs.prorate_days.Tie as tie
 
 -- the sizes take up all of their scratch
 sizes-are : (s : tie.Start) {e : List ℕ} → e ≡ map natAbs (s .args .weights .now) ++ drop (length (s .args .weights .now)) (s .args .sizes .now) → e ≡ map natAbs (s .args .weights .now)
