@@ -1,14 +1,10 @@
--- Columns of a point-day's users for a revision, zeros past the last user: the contracts of the functions below `revise`. Assumes nothing.
-use mathlib.Core.Bool.{true, false}
+-- Columns of a point-day's users for a revision, zeros past the last user. Assumes nothing.
 use mathlib.Core.List.{List, map}
-use mathlib.Core.Path.{_≡_}
 use lib.IntN.{ℤ, pos, natAbs, _-ℤ_}
-use Rattle.numbers.specs.Lists.{both}
 use Rattle.proration.specs.Proration.{prorateZ}
-use Rattle.point_day.specs.Limits.{USERS, TOLERANCE}
-use Rattle.point_day.specs.Day.{numbers, whole, all-whole, net, no-more, provisional}
-use Rattle.point_day.specs.Calls.{negative}
-use Rattle.point_day.specs.Struct.{Sized, read, padded, taken}
+use Rattle.point_day.specs.Limits.{USERS}
+use Rattle.point_day.specs.Day.{numbers, whole, all-whole, net}
+use Rattle.point_day.specs.Struct.{read, padded}
 use Rattle.point_day.specs.declared.PointDay.{PointDay}
 
 -- "everything allotted", user by user
@@ -22,15 +18,6 @@ outstanding d = net (read d) -ℤ all-whole (read d .users)
 -- "R is prorated by each user's whole amount"
 unfoldable pub shares : ℤ → PointDay → List ℤ
 shares R d = padded USERS (pos 0) (prorateZ R (map (λ u. natAbs (whole u)) (read d .users)) (numbers (read d .users)))
-
--- all tests but the last are passed, and R lies outside the tolerance
-pub record Assignable (d : PointDay) (R : ℤ) : Type 0 where
-  pub taken : taken d ≡ true
-  pub sized : Sized d
-  pub stage : both (provisional (d .stage)) (d .allotted) ≡ true
-  pub amount : R ≡ outstanding d
-  pub beyond : no-more TOLERANCE (outstanding d) ≡ false
-  pub weights : negative (wholes d) ≡ false
 
 -- a point-day with other revisions
 abbrev pub with-revision : List ℤ → PointDay → PointDay

@@ -30,7 +30,7 @@ use Rattle.state.proofs.Facts.{facts, laid-day}
 use Rattle.state.proofs.Totals.{whole-is}
 use Rattle.state.specs.Places.{Laid, whole-at}
 use Rattle.columns.proofs.Padding.{table-by, all-within, padded-over, padded-long, padded-start, padded-total, padded-within}
-use Rattle.revision.specs.Revisions.{wholes, outstanding, shares}
+use Rattle.outstanding.specs.Revisions.{wholes, outstanding, shares}
 
 module _ (d : PointDay) (z : Sized d) (ok : taken d ≡ true) where
   abbrev t : Taken d

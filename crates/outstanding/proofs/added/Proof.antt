@@ -1,10 +1,10 @@
--- `revision::added` meets its contract. Assumes nothing.
+-- `outstanding::added` meets its contract. Assumes nothing.
 use native.Mathlib.Omega.{arith}
 use Rattle.point_day.specs.Limits.{USERS}
 use Rattle.columns.proofs.Padding.{zip-places}
 use borrow.Author.Needs.{needs}
-use Rattle.revision.proofs.added.Statement.{statement}
-use Rattle.revision.proofs.added.Tie as tie
+use Rattle.outstanding.proofs.added.Statement.{statement}
+use Rattle.outstanding.proofs.added.Tie as tie
 
 slice-aggregate-add-amounts : tie.Need-slice-aggregate-add-amounts
 slice-aggregate-add-amounts c = search needs

@@ -1,13 +1,13 @@
--- `revision::share_column` meets its contract. Assumes nothing.
+-- `outstanding::share_column` meets its contract. Assumes nothing.
 use mathlib.Core.Path.{sym, ap, _∙_}
 use native.Mathlib.Omega.{arith}
 use mir.Facts.{toZ-ofZ}
-use Rattle.revision.proofs.Columns.{wholes-long, start-small, start-long, users-long, filled, shares-read}
+use Rattle.outstanding.proofs.Columns.{wholes-long, start-small, start-long, users-long, filled, shares-read}
 use Rattle.point_day.proofs.Taken.{taken-facts}
 use lib.ListN.{length}
 use borrow.Author.Needs.{needs}
-use Rattle.revision.proofs.share_column.Statement.{statement}
-use Rattle.revision.proofs.share_column.Tie as tie
+use Rattle.outstanding.proofs.share_column.Statement.{statement}
+use Rattle.outstanding.proofs.share_column.Tie as tie
 
 no-amounts-requires : tie.Need-no-amounts-requires
 no-amounts-requires c κs = search needs

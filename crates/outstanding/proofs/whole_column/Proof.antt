@@ -1,9 +1,9 @@
--- `revision::whole_column` meets its contract. Assumes nothing.
+-- `outstanding::whole_column` meets its contract. Assumes nothing.
 use native.Mathlib.Omega.{arith}
-use Rattle.revision.proofs.Columns.{wholes-read, summable}
+use Rattle.outstanding.proofs.Columns.{wholes-read, summable}
 use borrow.Author.Needs.{needs}
-use Rattle.revision.proofs.whole_column.Statement.{statement}
-use Rattle.revision.proofs.whole_column.Tie as tie
+use Rattle.outstanding.proofs.whole_column.Statement.{statement}
+use Rattle.outstanding.proofs.whole_column.Tie as tie
 
 no-amounts-requires : tie.Need-no-amounts-requires
 no-amounts-requires c κs = search needs

@@ -1,4 +1,4 @@
--- `revision::outstanding` meets its contract. Assumes nothing.
+-- `outstanding::outstanding` meets its contract. Assumes nothing.
 use native.Mathlib.Omega.{arith}
 use lib.Dec.{lit≤, lit<}
 use lib.IntN.{pos}
@@ -6,10 +6,10 @@ use Rattle.numbers.specs.Amounts.{Within}
 use Rattle.numbers.proofs.Amounts.{widen, back}
 use Rattle.point_day.specs.Limits.{LIMIT}
 use Rattle.point_day.proofs.Taken.{taken-facts}
-use Rattle.revision.proofs.Columns.{wholes-small, sum-within, outstanding-read}
+use Rattle.outstanding.proofs.Columns.{wholes-small, sum-within, outstanding-read}
 use borrow.Author.Needs.{needs}
-use Rattle.revision.proofs.outstanding.Statement.{statement}
-use Rattle.revision.proofs.outstanding.Tie as tie
+use Rattle.outstanding.proofs.outstanding.Statement.{statement}
+use Rattle.outstanding.proofs.outstanding.Tie as tie
 
 net-requires : tie.Need-net-requires
 net-requires c κs = taken-facts (c .args .day) (c .pre .0) .measurement
