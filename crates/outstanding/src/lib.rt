@@ -1,9 +1,11 @@
 // What a revision shares out: R, net less everything allotted, and its shares by the users' whole amounts.
 ghost use mathlib.Core.Path.{_≡_};
 ghost use mathlib.Core.Bool.{true};
-ghost use Prim.Native.Nat.{ℕ};
+ghost use mathlib.Core.List.{_++_};
+ghost use Prim.Native.Nat.{ℕ, _≤_};
 ghost use lib.IntN.{_+ℤ_};
-ghost use Rattle.numbers.specs.Sums.{atZ};
+ghost use lib.ListN.{length, drop};
+ghost use Rattle.numbers.specs.Sums.{table, atZ};
 ghost use Rattle.numbers.specs.Lists.{zip};
 ghost use Rattle.numbers.specs.Amounts.{Within};
 ghost use Rattle.point_day.specs.Limits.{LIMIT};
@@ -50,8 +52,20 @@ pub fn share_column(day: PointDay, amount: i64, column: [i64; USERS]) -> [i64; U
     let n = day.count;
     let users = day.users;
     let mut out = state::no_amounts();
-    columns::share_out(amount, &users[..n], &column[..n], &mut out);
+    column_shares::share_out(amount, &users[..n], &column[..n], &mut out);
     out
+}
+
+// Each amount of `more` added to that of `amounts` at its place; later ones stay.
+fn add_amounts(amounts: &mut [i64], more: &[i64])
+    requires { ⌜ (length (now more) ≤ length (now amounts)) × ((i : ℕ) → Within ROOM (atZ (now amounts) i)) × ((i : ℕ) → Within ROOM (atZ (now more) i)) ⌝ }
+    ensures { λ _. ⌜ now (amounts .exit) ≡ table (λ i. atZ (now (amounts .entry)) i +ℤ atZ (now (more .entry)) i) (length (now (more .entry))) ++ drop (length (now (more .entry))) (now (amounts .entry)) ⌝ }
+{
+    let mut i = 0;
+    while i < more.len() {
+        amounts[i] = numbers::plus(amounts[i], more[i]);
+        i += 1;
+    }
 }
 
 // The sums of two columns.
@@ -60,7 +74,7 @@ pub fn added(column: [i64; USERS], more: [i64; USERS]) -> [i64; USERS]
     ensures { λ r. ⌜ r ≡ zip _+ℤ_ column more ⌝ }
 {
     let mut out = column;
-    columns::add_amounts(&mut out, &more);
+    add_amounts(&mut out, &more);
     out
 }
 

@@ -1,4 +1,4 @@
--- `columns::add_amounts` meets its contract. Assumes nothing.
+-- `outstanding::add_amounts` meets its contract. Assumes nothing.
 use mathlib.Core.Path.{_≡_, ap, _∙_}
 use Prim.Native.Nat.{_-_, _≤_}
 use native.Mathlib.Omega.{arith}
@@ -12,8 +12,8 @@ use Rattle.numbers.specs.Sums.{atZ}
 use Rattle.numbers.proofs.Amounts.{widen, within-add, back}
 use Rattle.numbers.proofs.Filled.{Filled, fill-none, fill-step, fill-next, fill-end}
 use borrow.Author.Needs.{needs}
-use Rattle.columns.proofs.add_amounts.Statement.{statement}
-use Rattle.columns.proofs.add_amounts.Tie as tie
+use Rattle.outstanding.proofs.add_amounts.Statement.{statement}
+use Rattle.outstanding.proofs.add_amounts.Tie as tie
 
 abbrev Inv-loop : tie.InvT-loop
 Inv-loop amounts₀ more i₀ amounts i = (i ≤ length more) × Filled (λ k. atZ amounts₀ k +ℤ atZ more k) amounts₀ i amounts

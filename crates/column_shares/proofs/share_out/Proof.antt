@@ -1,4 +1,4 @@
--- `columns::share_out` meets its contract. Assumes nothing.
+-- `column_shares::share_out` meets its contract. Assumes nothing.
 use mathlib.Core.Path.{sym}
 use native.Mathlib.Omega.{arith}
 use lib.ListN.{length}
@@ -6,8 +6,8 @@ use mir.Facts.{toZ-ofZ}
 use Rattle.proration.proofs.Prorated.{take-long}
 use Rattle.point_day.specs.Limits.{USERS}
 use borrow.Author.Needs.{needs}
-use Rattle.columns.proofs.share_out.Statement.{statement}
-use Rattle.columns.proofs.share_out.Tie as tie
+use Rattle.column_shares.proofs.share_out.Statement.{statement}
+use Rattle.column_shares.proofs.share_out.Tie as tie
 
 column-requires : tie.Need-column-requires
 column-requires c κs = search needs

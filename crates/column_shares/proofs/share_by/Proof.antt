@@ -1,4 +1,4 @@
--- `columns::share_by` meets its contract. Assumes nothing.
+-- `column_shares::share_by` meets its contract. Assumes nothing.
 use mathlib.Core.Path.{sym, ap, _∙_}
 use native.Mathlib.Omega.{arith}
 use lib.Dec.{lit≤}
@@ -7,10 +7,11 @@ use lib.IntN.{natAbs}
 use lib.ListN.{length}
 use mir.Facts.{toZ-ofZ}
 use Rattle.numbers.proofs.Amounts.{widen}
-use Rattle.columns.proofs.Shared.{all-keys, fitted, sizes-long, sizes-bounded, shared-out}
+use Rattle.columns.proofs.Shared.{fitted, sizes-long, sizes-bounded}
+use Rattle.column_shares.proofs.Sharing.{all-keys, shared-out}
 use borrow.Author.Needs.{needs}
-use Rattle.columns.proofs.share_by.Statement.{statement}
-use Rattle.columns.proofs.share_by.Tie as tie
+use Rattle.column_shares.proofs.share_by.Statement.{statement}
+use Rattle.column_shares.proofs.share_by.Tie as tie
 
 keys-of-requires : tie.Need-keys-of-requires
 keys-of-requires c κs = search needs
