@@ -42,7 +42,7 @@ uint8_t seatpomelo_spread(uint64_t reading, const int64_t *weights, size_t days,
 uint64_t seatpomelo_telemetered(uint32_t day, const uint32_t *holidays, size_t holiday_count, const uint8_t *tags, size_t tag_count,
                                 const uint64_t *values, size_t value_count, uint64_t day_flow, uint32_t factor);
 
-/* ---- Crate proration: 0, or the number of the refusal; the signed shares in `out`. */
+/* ---- Crate split: 0, or the number of the refusal; the signed shares in `out`. */
 uint64_t seatpomelo_split(int64_t amount, const uint64_t *weights, size_t weight_count, const uint64_t *keys, size_t key_count, int64_t *out,
                           size_t room);
 

@@ -36,7 +36,9 @@ use Rattle.state.specs.Places.{From, ROOM, Small, Laid}
 use Rattle.state.proofs.Cells.{within-from}
 use Rattle.state.proofs.Totals.{offtake-is}
 use Rattle.taken.proofs.Facts.{Facts, facts, laid-day}
-use Rattle.balance.specs.Slots.{InRange, Metered, metered, weights, by-all-kinds, basis-weights, balance-of, shares-of, balances-of, all-balances}
+use Rattle.weights.specs.Metered.{InRange, Metered, metered, weights, by-all-kinds, basis-weights}
+use Rattle.shares.specs.Shared.{shares-of}
+use Rattle.balance.specs.Slots.{balance-of, balances-of, all-balances}
 use Rattle.allotment.specs.Allotted.{with-balances}
 
 -- ---- lists

@@ -1,3 +1,2 @@
-pub mod Weighing
 pub mod Parts
-pub mod Sharing
+pub mod Cells

@@ -1,54 +1,17 @@
--- The balance of a point-day from its cells, slot by slot: weights, shares, balance cells. Assumes nothing.
-use mathlib.Core.Bool.{Bool, false}
+-- The balance of a point-day and its cells, slot by slot. Assumes nothing.
+use mathlib.Core.Bool.{Bool}
 use mathlib.Core.List.{List, map}
-use mathlib.Core.Path.{_≡_}
-use Prim.Native.Nat.{ℕ, _+_, _≤_}
-use lib.Dec.{eqb}
+use Prim.Native.Nat.{ℕ, _+_}
 use lib.IntN.{ℤ, pos, natAbs, _-ℤ_}
-use lib.ListN.{length, take}
 use Rattle.numbers.specs.Sums.{table, atZ, total}
 use Rattle.numbers.specs.Lists.{flat}
-use Rattle.numbers.specs.Amounts.{Between}
-use Rattle.proration.specs.Proration.{prorateZ}
-use Rattle.point_day.specs.Limits.{CELLS, LIMIT}
-use Rattle.point_day.specs.Day.{User, empty-user}
-use Rattle.point_day.specs.Calls.{with-offtake, by-basis, with-share}
-use Rattle.point_day.specs.Struct.{kinds-of}
-
--- an array of consumption or losses: each cell lies in 0 to 1,000,000,000
-pub record InRange (xs : List ℤ) : Type 0 where
-  pub long : length xs ≡ CELLS
-  pub range : (i : ℕ) → Between (pos 0) (pos LIMIT) (atZ xs i)
-
--- both, and "all consumption and losses of a point-day together stay at or below 1,000,000,000"
-pub record Metered (cs ls : List ℤ) : Type 0 where
-  pub consumption : InRange cs
-  pub losses : InRange ls
-  pub sum : total (map natAbs cs) + total (map natAbs ls) ≤ LIMIT
-
--- the user of slot s, as far as consumption and losses tell
-abbrev pub metered : List ℤ → List ℤ → ℕ → User
-metered cs ls s = with-offtake (map natAbs (kinds-of s cs)) (map natAbs (kinds-of s ls)) (empty-user 0)
-
--- the weights of n users
-abbrev pub weights : Bool → List ℤ → List ℤ → ℕ → List ℕ
-weights all cs ls n = table (λ s. total (by-basis all (metered cs ls s))) n
-
--- "these are zero for all users"
-abbrev pub by-all-kinds : List ℤ → List ℤ → ℕ → Bool
-by-all-kinds cs ls n = eqb (total (weights false cs ls n)) 0
-
--- the weights that count
-abbrev pub basis-weights : List ℤ → List ℤ → ℕ → List ℕ
-basis-weights cs ls n = weights (by-all-kinds cs ls n) cs ls n
+use Rattle.point_day.specs.Calls.{with-share}
+use Rattle.weights.specs.Metered.{metered, by-all-kinds}
+use Rattle.shares.specs.Shared.{shares-of}
 
 -- "balance = net − consumption − losses, over all users"
 abbrev pub balance-of : ℕ → List ℤ → List ℤ → ℤ
 balance-of net cs ls = pos net -ℤ pos (total (map natAbs cs) + total (map natAbs ls))
-
--- the shares of n users
-abbrev pub shares-of : ℤ → List ℤ → List ℤ → List ℕ → ℕ → List ℤ
-shares-of z cs ls users n = prorateZ z (basis-weights cs ls n) (take n users)
 
 -- the balance cells of n users with the shares zs
 abbrev pub balances-of : Bool → List ℤ → List ℤ → List ℤ → ℕ → List ℤ

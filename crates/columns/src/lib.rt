@@ -1,21 +1,18 @@
+// Columns of a point-day's users: one number or amount for each user.
 ghost use mathlib.Core.Path.{_≡_};
-ghost use mathlib.Core.Bool.{true};
 ghost use mathlib.Core.List.{map, _++_};
 ghost use Prim.Native.Nat.{ℕ, _≤_, _<_};
-ghost use lib.IntN.{natAbs, _+ℤ_};
+ghost use lib.IntN.{natAbs};
 ghost use lib.ListN.{length, take, drop, replicate};
-ghost use Rattle.numbers.specs.Sums.{table, at, atZ};
+ghost use Rattle.numbers.specs.Sums.{at, atZ};
 ghost use Rattle.numbers.specs.Lists.{every};
 ghost use Rattle.numbers.specs.Amounts.{Within};
-ghost use Rattle.proration.specs.Proration.{prorateZ};
-ghost use Rattle.point_day.specs.Limits.{USERS, LIMIT, AMOUNT};
+ghost use Rattle.point_day.specs.Limits.{USERS, AMOUNT};
 ghost use Rattle.point_day.specs.Day.{no-more};
 ghost use Rattle.point_day.specs.Calls.{negative};
 ghost use Rattle.columns.specs.Rooms.{ROOM};
 use point_day::AMOUNT;
 use point_day::USERS;
-
-// Columns of a point-day's users: one number or amount for each user.
 
 // Zeros. (A call, so that no proof above sees its elements one by one.)
 pub fn column() -> [u64; USERS]
@@ -62,18 +59,6 @@ pub fn sizes_of(amounts: &[i64], sizes: &mut [u64])
     }
 }
 
-// Each amount of `more` added to that of `amounts` at its place; later ones stay.
-pub fn add_amounts(amounts: &mut [i64], more: &[i64])
-    requires { ⌜ (length (now more) ≤ length (now amounts)) × ((i : ℕ) → Within ROOM (atZ (now amounts) i)) × ((i : ℕ) → Within ROOM (atZ (now more) i)) ⌝ }
-    ensures { λ _. ⌜ now (amounts .exit) ≡ table (λ i. atZ (now (amounts .entry)) i +ℤ atZ (now (more .entry)) i) (length (now (more .entry))) ++ drop (length (now (more .entry))) (now (amounts .entry)) ⌝ }
-{
-    let mut i = 0;
-    while i < more.len() {
-        amounts[i] = numbers::plus(amounts[i], more[i]);
-        i += 1;
-    }
-}
-
 // Refusal 11: whether a weight is negative.
 pub fn any_negative(amounts: &[i64]) -> bool
     ensures { λ r. ⌜ r ≡ negative (now (amounts .entry)) ⌝ }
@@ -100,42 +85,4 @@ pub fn all_limited(amounts: &[i64]) -> bool
         i += 1;
     }
     true
-}
-
-// An amount prorated over users by the sizes of these amounts, with room for keys and weights; later shares stay.
-fn share_by(
-    amount: i64,
-    users: &[u16],
-    amounts: &[i64],
-    keys: &mut [u64],
-    weights: &mut [u64],
-    shares: &mut [i64],
-)
-    requires { ⌜ Within LIMIT amount × (0 < length (now users)) × (length (now users) ≤ USERS) × (length (now amounts) ≡ length (now users)) × ((i : ℕ) → Within AMOUNT (atZ (now amounts) i)) ⌝ }
-    requires { ⌜ (length (now keys) ≡ length (now users)) × (length (now weights) ≡ length (now users)) × (length (now users) ≤ length (now shares)) ⌝ }
-    ensures { λ _. ⌜ now (shares .exit) ≡ prorateZ amount (map natAbs (now (amounts .entry))) (now (users .entry)) ++ drop (length (now (users .entry))) (now (shares .entry)) ⌝ }
-{
-    keys_of(users, keys);
-    sizes_of(amounts, weights);
-    let whole = proration::weight_total(weights);
-    proration::prorate_signed(amount, weights, whole, keys, shares);
-}
-
-// An amount prorated over users by the sizes of these amounts; later shares stay.
-pub fn share_out(amount: i64, users: &[u16], amounts: &[i64], shares: &mut [i64])
-    requires { ⌜ Within LIMIT amount × (0 < length (now users)) × (length (now users) ≤ USERS) × (length (now amounts) ≡ length (now users)) × ((i : ℕ) → Within AMOUNT (atZ (now amounts) i)) ⌝ }
-    requires { ⌜ length (now users) ≤ length (now shares) ⌝ }
-    ensures { λ _. ⌜ now (shares .exit) ≡ prorateZ amount (map natAbs (now (amounts .entry))) (now (users .entry)) ++ drop (length (now (users .entry))) (now (shares .entry)) ⌝ }
-{
-    let n = users.len();
-    let mut keys = column();
-    let mut weights = column();
-    share_by(
-        amount,
-        users,
-        amounts,
-        &mut keys[..n],
-        &mut weights[..n],
-        shares,
-    );
 }

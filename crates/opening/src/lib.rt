@@ -85,7 +85,7 @@ fn share_column(amount: u64, users: &[u16], amounts: &[i64]) -> [i64; USERS]
     ensures { λ r. ⌜ r ≡ padded USERS (pos 0) (prorateZ (pos amount) (map natAbs (now (amounts .entry))) (now (users .entry))) ⌝ }
 {
     let mut shares = state::no_amounts();
-    columns::share_out(amount as i64, users, amounts, &mut shares);
+    column_shares::share_out(amount as i64, users, amounts, &mut shares);
     shares
 }
 

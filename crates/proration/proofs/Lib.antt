@@ -2,8 +2,5 @@ pub mod Ranks
 pub mod Order
 pub mod Shares
 pub mod Prorated
-pub mod Steps
-pub mod Cut
 pub mod Signs
-pub mod Call
 pub mod Fairness

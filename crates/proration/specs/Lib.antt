@@ -1,4 +1,2 @@
 pub mod Proration
 pub mod Laws
-pub mod Cut
-pub mod Call

@@ -94,7 +94,7 @@ fn run_split(
     if !next.ok {
         return next;
     }
-    if proration::seatpomelo_split(amount, weights, keys, shares) != 0 {
+    if split::seatpomelo_split(amount, weights, keys, shares) != 0 {
         return cursor::failed(next.at);
     }
     print_line(shares);

@@ -13,10 +13,12 @@ use Rattle.numbers.proofs.Sums.{cases, length-table}
 use Rattle.proration.specs.Laws.{Fair}
 use Rattle.proration.proofs.Fairness.{fair}
 use Rattle.point_day.specs.Calls.{Verdict, refuse, accept, verdict}
-use Rattle.reading.specs.Spread.{Outcome, in-range, days, parts, by, spread, tests}
+use Rattle.period.specs.Period.{in-range, days, parts}
+use Rattle.reading.specs.Spread.{Outcome, by, spread, tests}
 use Rattle.reading.specs.Laws.{Spread-Laws}
-use Rattle.reading.proofs.Outcomes.{in-range-facts, out-of-range}
-use Rattle.reading.proofs.Periods.{days-distinct}
+use Rattle.period.proofs.Ranges.{in-range-facts}
+use Rattle.reading.proofs.Outcomes.{out-of-range}
+use Rattle.day_parts.proofs.Periods.{days-distinct}
 
 module _ (reading : ℕ) (ws buffer : List ℤ) where
   -- the buffer, if the call is not refused

@@ -1,34 +1,19 @@
--- Document 01, section "Spreading a reading". Assumes nothing.
-use mathlib.Core.Bool.{Bool, not}
-use mathlib.Core.List.{List, [], _∷_, _++_, map}
+-- Document 01, section "Spreading a reading": the call, its refusals and its buffer. Assumes nothing.
+use mathlib.Core.Bool.{not}
+use mathlib.Core.List.{List, [], _∷_, _++_}
 use mathlib.Core.Path.{_≡_, refl}
-use Prim.Native.Nat.{ℕ, suc}
-use lib.Dec.{leb, ltb}
-use lib.IntN.{ℤ, pos, negsuc, natAbs}
+use Prim.Native.Nat.{ℕ}
+use lib.Dec.{ltb}
+use lib.IntN.{ℤ, pos, negsuc}
 use lib.ListN.{length, drop}
 use Rattle.numbers.specs.Sums.{table, sum, total}
-use Rattle.numbers.specs.Lists.{both, every}
-use Rattle.proration.specs.Proration.{PARTIES, prorateZ, prorate, counted, split, share, left, before}
-use Rattle.point_day.specs.Limits.{LIMIT, AMOUNT}
-use Rattle.point_day.specs.Day.{no-more}
+use Rattle.numbers.specs.Lists.{every}
+use Rattle.proration.specs.Proration.{prorateZ, prorate, counted, split, share, left, before}
+use Rattle.point_day.specs.Limits.{AMOUNT}
 use Rattle.point_day.specs.Calls.{Test, _when_, Verdict, refuse, accept, verdict, negative}
+use Rattle.period.specs.Period.{in-range, parts}
 use Rattle.reading.specs.declared.SpreadAnswer.{SpreadAnswer}
 use Rattle.reading.specs.declared.SpreadAnswer.the-variants.{Refused, Done}
-
--- "A reading of 0 to 1,000,000,000 .. the 1 to 366 days of its period .. The weights are the point's provisional consumption, losses
--- and balance of that kind on each day, each −2,000,000,000 to 2,000,000,000": a weight for each day
-unfoldable pub in-range : ℕ → List ℤ → Bool
-in-range reading weights =
-    both (leb reading LIMIT)
-    (both (both (leb 1 (length weights)) (leb (length weights) PARTIES)) (every (no-more AMOUNT) weights))
-
--- the days of a period, numbered from its first: the "earlier day" of two is the lower number
-abbrev pub days : ℕ → List ℕ
-days n = table suc n
-
--- "is prorated over the .. days of its period": each day's part of the reading, for weights none of which is negative
-unfoldable pub parts : ℕ → List ℤ → List ℤ
-parts reading weights = prorateZ (pos reading) (map natAbs weights) (days (length weights))
 
 -- the rows of section "Refusals" that apply: 2, 11 ("reading split") and 14 ("lent buffer under .. one a day")
 unfoldable pub tests : ℕ → List ℤ → List ℤ → List Test

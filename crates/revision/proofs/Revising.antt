@@ -26,8 +26,8 @@ use Rattle.point_day.proofs.Called.{called-refused, called-accepted, test-holds
 use Rattle.point_day.proofs.Wholes.{assigned-long}
 use Rattle.point_day.proofs.Weights.{assigned-count}
 use Rattle.columns.proofs.Padding.{padded-every, zip-padded, zip-within}
-use Rattle.revision.specs.Revisions.{wholes, outstanding, shares, with-revision}
-use Rattle.revision.proofs.Columns.{summable, revisions-small, shares-small, shares-long}
+use Rattle.outstanding.specs.Revisions.{wholes, outstanding, shares, with-revision}
+use Rattle.outstanding.proofs.Columns.{summable, revisions-small, shares-small, shares-long}
 
 -- ---- a number of each user after its revision
 

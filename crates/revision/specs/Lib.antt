@@ -1,1 +1,1 @@
-pub mod Revisions
+pub mod Assigning

@@ -1,6 +1,6 @@
 //! The proved library, as a Rust program calls it.
 
-#[link(name = "proration", kind = "static")]
+#[link(name = "split", kind = "static")]
 extern "C" {
     // A Rattle slice is passed as a pointer and a length.
     fn seatpomelo_split(

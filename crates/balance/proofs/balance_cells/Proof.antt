@@ -5,7 +5,8 @@ use Rattle.numbers.specs.Amounts.{Within}
 use Rattle.numbers.proofs.Amounts.{back}
 use Rattle.point_day.specs.Limits.{LIMIT}
 use Rattle.balance.specs.Slots.{balance-of}
-use Rattle.balance.proofs.Sharing.{balance-within, shares-long, shares-within, shares-back, none-long, cells-are}
+use Rattle.shares.proofs.Sharing.{shares-long, shares-within}
+use Rattle.balance.proofs.Cells.{balance-within, shares-back, none-long, cells-are}
 use native.Mathlib.Omega.{arith}
 use borrow.Author.Needs.{needs}
 use Rattle.balance.proofs.balance_cells.Statement.{statement}

@@ -1,5 +1,5 @@
 -- `balance::day_balance` meets its contract: no difference leaves 64 bits. Assumes nothing.
-use Rattle.balance.proofs.Sharing.{balance-fits, balance-is}
+use Rattle.balance.proofs.Cells.{balance-fits, balance-is}
 use borrow.Author.Needs.{needs}
 use Rattle.balance.proofs.day_balance.Statement.{statement}
 use Rattle.balance.proofs.day_balance.Tie as tie

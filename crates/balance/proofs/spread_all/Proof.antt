@@ -7,8 +7,9 @@ use lib.Seq.{length-take-le}
 use Rattle.numbers.proofs.Amounts.{back}
 use Rattle.proration.specs.Proration.{prorateZ}
 use Rattle.point_day.specs.Calls.{or-kind-1, kinds, with-share}
-use Rattle.balance.specs.Slots.{balances-of, metered}
-use Rattle.balance.proofs.Weighing.{share-long}
+use Rattle.weights.specs.Metered.{metered}
+use Rattle.balance.specs.Slots.{balances-of}
+use Rattle.balance.proofs.Cells.{share-long}
 use Rattle.numbers.specs.Sums.{atZ}
 use Rattle.balance.proofs.Parts.{Parts, parts-none, parts-step}
 use borrow.Author.Needs.{needs}

@@ -11,8 +11,8 @@ use Rattle.point_day.specs.Day.{provisional, too-large}
 use Rattle.point_day.specs.Calls.{revision-assigned}
 use Rattle.point_day.specs.Struct.{read, outcome}
 use Rattle.point_day.specs.declared.PointDay.{PointDay}
-use Rattle.revision.specs.Revisions.{outstanding, shares, with-revision}
-use Rattle.revision.proofs.Columns.{amount-small, shares-small, revisions-small}
+use Rattle.outstanding.specs.Revisions.{outstanding, shares, with-revision}
+use Rattle.outstanding.proofs.Columns.{amount-small, shares-small, revisions-small}
 use Rattle.revision.proofs.Revising.{summable-after, revise-12, revise-done}
 use borrow.Author.Needs.{needs}
 use Rattle.revision.proofs.assign.Statement.{statement}

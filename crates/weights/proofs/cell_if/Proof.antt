@@ -1,0 +1,16 @@
+-- `weights::cell_if` meets its contract. Assumes nothing.
+use borrow.Author.Needs.{needs}
+use Rattle.weights.proofs.cell_if.Statement.{statement}
+use Rattle.weights.proofs.cell_if.Tie as tie
+
+cell-requires : tie.Need-cell-requires
+cell-requires c κs = search needs
+
+returns : tie.Need-returns
+returns c = (rw (c .before .if1 .taken) (c .cell .ensures .0), c .cell .ensures .1)
+
+returns-2 : tie.Need-returns-2
+returns-2 c = search needs
+
+pub cell-if-spec : {M : Type 1} → statement M
+cell-if-spec = tie.close (tie.spec cell-requires returns returns-2)
