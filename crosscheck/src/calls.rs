@@ -198,7 +198,6 @@ fn whole_amounts_bounded(after: &PointDay) -> Result<(), Refusal> {
 
 /// Stand-in (provisional entering, no user joined): shares net by an earlier day's amounts.
 fn stand_in(day: &PointDay, rows: &[Row]) -> Outcome {
-    assert_eq!(rows.len(), STAND_IN_ROWS);
     // "The nearest row with any pair is used."
     let used = rows.iter().position(|row| !row.is_empty());
     let negative = used.is_some_and(|i| rows[i].iter().any(|&(_, amount)| amount < 0));
@@ -206,6 +205,7 @@ fn stand_in(day: &PointDay, rows: &[Row]) -> Outcome {
     let mut refusals = Refusals::new();
     refusals.when(day.stage != Stage::Provisional || day.allotted, Refusal::WrongStage);
     refusals.when(day.count > 0, Refusal::WrongStage);
+    refusals.when(rows.len() != STAND_IN_ROWS, Refusal::OutOfRange);
     refusals.when(!rows.iter().all(row_in_range), Refusal::OutOfRange);
     refusals.when(day.measurement.is_none(), Refusal::Unmeasured);
     refusals.when(day.net().is_some_and(|net| net <= TOLERANCE), Refusal::NetTooSmall);

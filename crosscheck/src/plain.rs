@@ -161,11 +161,13 @@ impl PlainRows {
         plain
     }
 
-    /// Lists of other lengths hold no fifteen rows.
-    fn rows(&self) -> Option<Vec<Row>> {
+    /// Lists of other lengths hold no rows, and none are not the fifteen of a stand-in.
+    fn rows(&self) -> Vec<Row> {
         let lengths = (self.counts.len(), self.users.len(), self.amounts.len());
-        (lengths == (STAND_IN_ROWS, PAIRS, PAIRS))
-            .then(|| (0..STAND_IN_ROWS).map(|i| self.row(i)).collect())
+        if lengths != (STAND_IN_ROWS, PAIRS, PAIRS) {
+            return Vec::new();
+        }
+        (0..STAND_IN_ROWS).map(|i| self.row(i)).collect()
     }
 
     /// One of over 64 pairs has no room for them: any 65 stand for it.
@@ -237,7 +239,7 @@ fn listed(before: &[i64], day: &PointDay, room: usize) -> Result<Accepted, Refus
     Ok((numbers, rows))
 }
 
-/// The call in document 01's terms, if its lists have the lengths for it.
+/// The call in document 01's terms, if it is one of its calls on a point-day.
 fn document_call(call: &PlainCall) -> Option<Call> {
     Some(match call {
         PlainCall::Fresh | PlainCall::Inventory(_) => return None,
@@ -255,7 +257,7 @@ fn document_call(call: &PlainCall) -> Option<Call> {
         PlainCall::Allot => Call::Allot,
         PlainCall::Revise => Call::Revise,
         PlainCall::StartFinal => Call::StartFinal,
-        PlainCall::StandIn(rows) => Call::StandIn(rows.rows()?),
+        PlainCall::StandIn(rows) => Call::StandIn(rows.rows()),
     })
 }
 

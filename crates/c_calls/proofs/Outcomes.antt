@@ -1,5 +1,5 @@
 -- A call's answer as plain numbers. Assumes nothing.
-use mathlib.Core.Path.{_≡_, ap, _∙_}
+use mathlib.Core.Path.{_≡_, refl, ap, _∙_}
 use mathlib.Core.Bool.{true, false}
 use mathlib.Core.List.{List}
 use Prim.Native.Nat.{ℕ, _*_}
@@ -7,15 +7,16 @@ use lib.Dec.{eqb}
 use lib.IntN.{ℤ}
 use lib.ListN.{length}
 use borrow.Author.Tests.{eqb-true}
-use Rattle.numbers.specs.Lists.{both}
+use Rattle.numbers.specs.Sums.{table}
+use Rattle.numbers.specs.Lists.{both, every}
 use Rattle.numbers.proofs.Lists.{both-fst, both-snd}
-use Rattle.point_day.specs.Limits.{USERS, ROWS, TOLERANCE}
-use Rattle.point_day.specs.Calls.{Answer, stand-in}
-use Rattle.point_day.specs.Struct.{Outcome, outcome, called, rows-of}
+use Rattle.point_day.specs.Limits.{USERS, ROWS}
+use Rattle.point_day.specs.Calls.{Answer, row-right}
+use Rattle.point_day.specs.Struct.{Outcome, outcome, rows-of}
 use Rattle.point_day.specs.declared.PointDay.{PointDay}
 use Rattle.stand_in_rows.specs.Rows.{rows}
 use Rattle.plain_day.specs.Layout.{is-laid-out, day-in}
-use Rattle.c_calls.specs.Plain.{plain, given, plain-call, rows-laid-out, plain-stand-in}
+use Rattle.c_calls.specs.Plain.{plain, given, plain-call, rows-laid-out, misfits, rows-in}
 
 module _ (call : PointDay → Outcome) (xs : List ℤ) where
   pub not-laid-out : is-laid-out xs ≡ false → plain 2 xs ≡ plain-call call xs
@@ -42,10 +43,15 @@ module _ (cs us : List ℕ) (zs : List ℤ) where
       let f = both-snd p (both q r) e in
       (eqb-true (length cs) ROWS (both-fst p (both q r) e), eqb-true (length us) (USERS * ROWS) (both-fst q r f), eqb-true (length zs) (USERS * ROWS) (both-snd q r f))
 
-  pub rows-not-laid-out : (xs : List ℤ) → rows-laid-out cs us zs ≡ false → plain 2 xs ≡ plain-stand-in cs us zs xs
-  unfolding plain-stand-in
-  rows-not-laid-out xs e = rw e
+  pub rows-held : rows-laid-out cs us zs ≡ true → rows cs us zs ≡ rows-in cs us zs
+  unfolding rows-in
+  rows-held e = rw e
 
-  pub with-rows : (xs : List ℤ) → rows-laid-out cs us zs ≡ true → plain-call (called (stand-in TOLERANCE (rows-of (rows cs us zs)))) xs ≡ plain-stand-in cs us zs xs
-  unfolding plain-stand-in
-  with-rows xs e = rw e
+  pub rows-other : rows-laid-out cs us zs ≡ false → misfits ≡ rows-in cs us zs
+  unfolding rows-in
+  rows-other e = rw e
+
+-- the rows of lists of other lengths are out of range
+pub misfits-wrong : every row-right (rows-of misfits) ≡ false
+unfolding rows-of table every
+misfits-wrong = refl

@@ -4,7 +4,7 @@ use mathlib.Core.List.{List}
 use Prim.Native.Nat.{ℕ, _*_}
 use lib.Dec.{eqb}
 use lib.IntN.{ℤ, pos}
-use lib.ListN.{length}
+use lib.ListN.{length, replicate}
 use Rattle.numbers.specs.Sums.{pick}
 use Rattle.numbers.specs.Lists.{both}
 use Rattle.wire.specs.Bytes.{signed-64}
@@ -13,6 +13,7 @@ use Rattle.point_day.specs.Calls.{Answer, refused, done, losses-added, rows-loo
 use Rattle.point_day.specs.Day.{fresh}
 use Rattle.point_day.specs.Struct.{Outcome, called, laid, rows-of}
 use Rattle.point_day.specs.declared.PointDay.{PointDay}
+use Rattle.point_day.specs.declared.StandInRows.{StandInRows}
 use Rattle.stand_in_rows.specs.Rows.{rows}
 use Rattle.plain_day.specs.Layout.{LENGTH, is-laid-out, day-in, numbers-of}
 
@@ -47,7 +48,13 @@ unfoldable pub rows-laid-out : List ℕ → List ℕ → List ℤ → Bool
 rows-laid-out cs us zs =
     both (eqb (length cs) ROWS) (both (eqb (length us) (USERS * ROWS)) (eqb (length zs) (USERS * ROWS)))
 
--- lists of other lengths are outside their stated range
-unfoldable pub plain-stand-in : List ℕ → List ℕ → List ℤ → List ℤ → Plain
-plain-stand-in cs us zs xs =
-    pick (rows-laid-out cs us zs) (plain-call (called (stand-in TOLERANCE (rows-of (rows cs us zs)))) xs) (plain 2 xs)
+-- rows outside their stated range: each is a pair of user 0
+abbrev pub misfits : StandInRows
+misfits = rows (replicate ROWS 1) (replicate (USERS * ROWS) 0) (replicate (USERS * ROWS) (pos 0))
+
+-- the rows that three lists hold; lists of other lengths are outside their stated range
+unfoldable pub rows-in : List ℕ → List ℕ → List ℤ → StandInRows
+rows-in cs us zs = pick (rows-laid-out cs us zs) (rows cs us zs) misfits
+
+abbrev pub plain-stand-in : List ℕ → List ℕ → List ℤ → List ℤ → Plain
+plain-stand-in cs us zs = plain-call (called (stand-in TOLERANCE (rows-of (rows-in cs us zs))))

@@ -8,7 +8,7 @@ ghost use Rattle.point_day.specs.Struct.{read, called};
 ghost use Rattle.stand_in_rows.specs.Rows.{rows};
 ghost use Rattle.inventory.specs.Inventory.{Afterwards};
 ghost use Rattle.plain_day.specs.Layout.{LENGTH, day-in};
-ghost use Rattle.c_calls.specs.Plain.{plain, plain-call, plain-fresh, rows-laid-out, plain-stand-in};
+ghost use Rattle.c_calls.specs.Plain.{plain, plain-call, plain-fresh, rows-laid-out, misfits, rows-in, plain-stand-in};
 ghost use Rattle.c_calls.specs.Listing.{plain-inventory, answer-number, counted};
 use inventory::InventoryAnswer;
 use plain_day::LENGTH;
@@ -63,11 +63,11 @@ fn put_pair_users(out: &mut [u16], xs: &[u16])
     }
 }
 
-// Zeros. (Calls, so that no proof above sees their elements one by one.)
-fn no_counts() -> [usize; ROWS]
-    ensures { λ r. ⌜ r ≡ replicate ROWS 0 ⌝ }
+// One count for all rows, and zeros. (Calls, so that no proof above sees their elements one by one.)
+fn all_counts(n: usize) -> [usize; ROWS]
+    ensures { λ r. ⌜ r ≡ replicate ROWS n ⌝ }
 {
-    [0; ROWS]
+    [n; ROWS]
 }
 
 fn no_pair_users() -> [u16; PAIRS]
@@ -82,11 +82,11 @@ fn no_pair_amounts() -> [i64; PAIRS]
     [0; PAIRS]
 }
 
-fn rows_in(counts: &[usize], users: &[u16], amounts: &[i64]) -> StandInRows
+fn copied_rows(counts: &[usize], users: &[u16], amounts: &[i64]) -> StandInRows
     requires { ⌜ (length (now counts) ≡ ROWS) × (length (now users) ≡ USERS * ROWS) × (length (now amounts) ≡ USERS * ROWS) ⌝ }
     ensures { λ r. ⌜ r ≡ rows (now (counts .entry)) (now (users .entry)) (now (amounts .entry)) ⌝ }
 {
-    let mut row_counts = no_counts();
+    let mut row_counts = all_counts(0);
     let mut pair_users = no_pair_users();
     let mut pair_amounts = no_pair_amounts();
     put_counts(&mut row_counts, counts);
@@ -97,6 +97,27 @@ fn rows_in(counts: &[usize], users: &[u16], amounts: &[i64]) -> StandInRows
         users: pair_users,
         amounts: pair_amounts,
     }
+}
+
+// Rows outside their stated range: each is a pair of user 0.
+fn misfits() -> StandInRows
+    ensures { λ r. ⌜ r ≡ misfits ⌝ }
+{
+    StandInRows {
+        counts: all_counts(1),
+        users: no_pair_users(),
+        amounts: no_pair_amounts(),
+    }
+}
+
+// The rows that three lists hold; lists of other lengths are rows outside their stated range.
+fn rows_in(counts: &[usize], users: &[u16], amounts: &[i64]) -> StandInRows
+    ensures { λ r. ⌜ r ≡ rows-in (now (counts .entry)) (now (users .entry)) (now (amounts .entry)) ⌝ }
+{
+    if !rows_laid_out(counts, users, amounts) {
+        return misfits();
+    }
+    copied_rows(counts, users, amounts)
 }
 
 // ---- The calls: each answers 0, or document 01's number of the refusal, and then writes nothing
@@ -237,9 +258,6 @@ pub extern "C" fn seatpomelo_stand_in(
 ) -> u8
     ensures { λ r. ⌜ plain r (now (day .exit)) ≡ plain-stand-in (now (counts .entry)) (now (users .entry)) (now (amounts .entry)) (now (day .entry)) ⌝ }
 {
-    if !rows_laid_out(counts, users, amounts) {
-        return OUT_OF_RANGE;
-    }
     if !plain_day::is_laid_out(day) {
         return OUT_OF_RANGE;
     }

@@ -1,59 +1,31 @@
 -- `c_calls::rows_in` meets its contract. Assumes nothing.
-use mathlib.Core.Path.{_≡_, sym, ap, _∙_}
-use Prim.Native.Nat.{_*_}
-use lib.IntN.{pos}
-use lib.ListN.{length, length-replicate}
-use Rattle.point_day.specs.Limits.{USERS, ROWS}
-use Rattle.plain_day.proofs.Lists.{put-all}
+use mathlib.Core.Path.{_≡_, sym, _∙_}
 use borrow.Author.Needs.{needs}
+use borrow.Author.Tests.{not-true, not-false}
+use Rattle.c_calls.proofs.Outcomes.{rows-lengths, rows-held, rows-other}
 use Rattle.c_calls.proofs.rows_in.Statement.{statement}
 use Rattle.c_calls.proofs.rows_in.Tie as tie
 
-no-counts-requires : tie.Need-no-counts-requires
-no-counts-requires c κs = search needs
+rows-laid-out-requires : tie.Need-rows-laid-out-requires
+rows-laid-out-requires c κs = search needs
 
-no-pair-users-requires : tie.Need-no-pair-users-requires
-no-pair-users-requires c κs = search needs
-
-no-pair-amounts-requires : tie.Need-no-pair-amounts-requires
-no-pair-amounts-requires c κs = search needs
-
-slice-aggregate-put-counts : tie.Need-slice-aggregate-put-counts
-slice-aggregate-put-counts c = search needs
-
-put-counts-requires : tie.Need-put-counts-requires
-put-counts-requires c κs = search needs
-
-slice-aggregate-put-pair-users : tie.Need-slice-aggregate-put-pair-users
-slice-aggregate-put-pair-users c = search needs
-
-put-pair-users-requires : tie.Need-put-pair-users-requires
-put-pair-users-requires c κs = search needs
-
-slice-aggregate-put : tie.Need-slice-aggregate-put
-slice-aggregate-put c = search needs
-
-put-requires : tie.Need-put-requires
-put-requires c κs = search needs
+misfits-requires : tie.Need-misfits-requires
+misfits-requires c κs = search needs
 
 returns : tie.Need-returns
 returns c =
-    let s = c .before .before .before .before .before .before .before .before .before .before .before .before .before .before in
-    let d = c .before .before .before .before .before .before .before .before .before .no-pair-amounts in
-    let e : length (s .args .amounts .now) ≡ length (d .result) = s .pre .2 ∙ sym (ap length (d .ensures) ∙ length-replicate (USERS * ROWS) (pos 0)) in
-    rw (c .before .before .before .before .before .before .before .put-counts .ensures, c .before .before .before .before .put-pair-users .ensures, c .before .put .ensures ∙ put-all (d .result) (s .args .amounts .now) e)
+    let s = c .before .before .before .before in
+    c .misfits .ensures ∙ rows-other (s .args .counts .now) (s .args .users .now) (s .args .amounts .now) (sym (c .before .before .rows-laid-out .ensures) ∙ not-true _ (c .before .if1 .taken))
+
+copied-rows-requires : tie.Need-copied-rows-requires
+copied-rows-requires c κs =
+    let s = c .before .before .before .before in
+    rows-lengths (s .args .counts .now) (s .args .users .now) (s .args .amounts .now) (sym (c .before .rows-laid-out .ensures) ∙ not-false _ (c .if1 .left))
+
+returns-2 : tie.Need-returns-2
+returns-2 c =
+    let s = c .before .before .before .before .before in
+    c .copied-rows .ensures ∙ rows-held (s .args .counts .now) (s .args .users .now) (s .args .amounts .now) (sym (c .before .before .rows-laid-out .ensures) ∙ not-false _ (c .before .if1 .left))
 
 pub rows-in-spec : {M : Type 1} → statement M
-rows-in-spec =
-    tie.close
-    (tie.spec
-    no-counts-requires
-    no-pair-users-requires
-    no-pair-amounts-requires
-    slice-aggregate-put-counts
-    put-counts-requires
-    slice-aggregate-put-pair-users
-    put-pair-users-requires
-    slice-aggregate-put
-    put-requires
-    returns)
+rows-in-spec = tie.close (tie.spec rows-laid-out-requires misfits-requires returns copied-rows-requires returns-2)
