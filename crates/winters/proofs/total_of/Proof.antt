@@ -1,14 +1,14 @@
--- `coefficients::total_of` meets its contract. The sum so far and the rest of the list make the sum of the list. Assumes nothing.
+-- `winters::total_of` meets its contract. The sum so far and the rest of the list make the sum of the list. Assumes nothing.
 use mathlib.Core.Path.{_≡_}
 use Prim.Native.Nat.{_+_, _-_, _≤_}
 use native.Mathlib.Omega.{arith}
 use lib.ListN.{length, drop}
 use borrow.Author.Needs.{needs}
 use Rattle.numbers.specs.Sums.{total}
 use Rattle.coefficients.specs.Temperature.{MOST-DEGREES}
-use Rattle.coefficients.proofs.Lists.{total-next, total-end, total-most}
-use Rattle.coefficients.proofs.total_of.Statement.{statement}
-use Rattle.coefficients.proofs.total_of.Tie as tie
+use Rattle.winters.proofs.Lists.{total-next, total-end, total-most}
+use Rattle.winters.proofs.total_of.Statement.{statement}
+use Rattle.winters.proofs.total_of.Tie as tie
 
 abbrev Inv-loop : tie.InvT-loop
 Inv-loop days sum₀ i₀ sum i = (i ≤ length days) × (total days ≡ sum + total (drop i days))

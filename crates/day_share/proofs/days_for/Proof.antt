@@ -1,8 +1,8 @@
--- `month_consumption::days_for` meets its contract. Each branch is a case of the definition. Assumes nothing.
+-- `day_share::days_for` meets its contract. Each branch is a case of the definition. Assumes nothing.
 use mathlib.Core.Path.{refl}
 use borrow.Author.Needs.{needs}
-use Rattle.month_consumption.proofs.days_for.Statement.{statement}
-use Rattle.month_consumption.proofs.days_for.Tie as tie
+use Rattle.day_share.proofs.days_for.Statement.{statement}
+use Rattle.day_share.proofs.days_for.Tie as tie
 
 sub-result : tie.Need-sub-result
 sub-result c = search needs

@@ -1,10 +1,10 @@
--- `coefficients::mean_of` meets its contract. The sum over the number of days. Assumes nothing.
+-- `winters::mean_of` meets its contract. The sum over the number of days. Assumes nothing.
 use mathlib.Core.Path.{ap}
 use lib.ListN.{length}
 use borrow.Author.Needs.{needs}
 use Rattle.coefficients.specs.Temperature.{_over_, mean}
-use Rattle.coefficients.proofs.mean_of.Statement.{statement}
-use Rattle.coefficients.proofs.mean_of.Tie as tie
+use Rattle.winters.proofs.mean_of.Statement.{statement}
+use Rattle.winters.proofs.mean_of.Tie as tie
 
 total-of-requires : tie.Need-total-of-requires
 total-of-requires c κs = search needs

@@ -3,9 +3,9 @@ use mathlib.Core.Path.{_≡_}
 use mathlib.Core.Bool.{true, false}
 use mathlib.Core.List.{List}
 use mathlib.Core.Logic.{⊎-elim}
-use Prim.Native.Nat.{ℕ, _+_, _*_, _≤_}
+use Prim.Native.Nat.{ℕ, _*_, _≤_}
 use native.Mathlib.Omega.{arith}
-use native.Mathlib.Nat.{mul-le-mul, mul-pos}
+use native.Mathlib.Nat.{mul-pos}
 use lib.Dec.{leb, eqb}
 use lib.ListN.{length}
 use borrow.Author.Tests.{leb-true, eq-eqb, ne-eqb, eqb-true, eqb-false}
@@ -13,9 +13,9 @@ use Rattle.numbers.specs.Sums.{total}
 use Rattle.numbers.specs.Lists.{both, every}
 use Rattle.numbers.proofs.Sums.{cases}
 use Rattle.numbers.proofs.Lists.{both-fst, both-snd}
-use Rattle.coefficients.specs.Temperature.{FEWEST-DAYS, MOST-DAYS, MOST-DEGREES, ADDED, is-degrees, correction, Corrects, mean, Sound, MonthMean, winters-mean, winter-right, winters-right}
-use Rattle.coefficients.specs.declared.Fraction.{Fraction}
-use Rattle.coefficients.proofs.Lists.{total-most}
+use Rattle.coefficients.specs.Temperature.{FEWEST-DAYS, MOST-DAYS, MOST-DEGREES, is-degrees, mean, Sound, MonthMean, winters-mean, winter-right, winters-right}
+use Rattle.coefficients.proofs.Fractions.{cross, bottoms}
+use Rattle.winters.proofs.Lists.{total-most}
 
 -- the degree days of a month
 pub record Month (ds : List ℕ) : Type 0 where
@@ -41,12 +41,6 @@ mean-sound ds m = record { top = omega (arith, total-limit ds m); some = omega (
 pub month-mean : (ds : List ℕ) → Month ds → MonthMean (mean ds)
 unfolding mean
 month-mean ds m = record { top = total-limit ds m; bottom = m .most }
-
-pub cross : {f g : Fraction} → MonthMean f → MonthMean g → f .top * g .bottom ≤ MOST-DAYS * MOST-DEGREES * MOST-DAYS
-cross m n = mul-le-mul (m .top) (n .bottom)
-
-pub bottoms : {f g : Fraction} → MonthMean f → MonthMean g → f .bottom * g .bottom ≤ MOST-DAYS * MOST-DAYS
-bottoms m n = mul-le-mul (m .bottom) (n .bottom)
 
 module _ (k : ℕ) (first second : List ℕ) (h : winters-right k first second ≡ true) where
   pub one-winter : k ≡ 1 → Month first
@@ -81,9 +75,3 @@ module _ (k : ℕ) (first second : List ℕ) (h : winters-right k first second �
             some = omega (arith, mul-pos (m .some) (n .some));
             bottom = omega (arith, bottoms (month-mean first a) (month-mean second b));
           })
-
-pub corrects : (g : ℕ) (m : Fraction) → g ≤ MOST-DEGREES → Sound m → Corrects (correction g m)
-unfolding correction
-corrects g m l s =
-    let h : g + ADDED ≤ MOST-DEGREES + ADDED = omega arith in
-    record { top = omega (arith, mul-le-mul h (s .bottom)); some = omega (arith, s .some); bottom = omega (arith, s .top, s .bottom) }

@@ -1,12 +1,13 @@
--- `month_consumption::day_of_month` meets its contract. The products are small, and the divisor is above 0. Assumes nothing.
+-- `day_share::day_of_month` meets its contract. The products are small, and the divisor is above 0. Assumes nothing.
 use mathlib.Core.Path.{ap, subst, _∙_}
 use native.Mathlib.Nat.{mul-le-mul, mul-pos}
 use native.Mathlib.Omega.{arith}
 use borrow.Author.Needs.{needs}
 use Rattle.supply.specs.Amounts.{limited}
-use Rattle.month_consumption.specs.MonthConsumption.{SmallBasis, day-of}
-use Rattle.month_consumption.proofs.day_of_month.Statement.{statement}
-use Rattle.month_consumption.proofs.day_of_month.Tie as tie
+use Rattle.month_consumption.specs.MonthConsumption.{SmallBasis}
+use Rattle.day_share.specs.DayShare.{day-of}
+use Rattle.day_share.proofs.day_of_month.Statement.{statement}
+use Rattle.day_share.proofs.day_of_month.Tie as tie
 
 enum-known-basis : tie.Need-enum-known-basis
 enum-known-basis c = search needs

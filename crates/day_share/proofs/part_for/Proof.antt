@@ -1,7 +1,7 @@
--- `month_consumption::part_for` meets its contract. Each branch is a case of the definition. Assumes nothing.
+-- `day_share::part_for` meets its contract. Each branch is a case of the definition. Assumes nothing.
 use borrow.Author.Needs.{needs}
-use Rattle.month_consumption.proofs.part_for.Statement.{statement}
-use Rattle.month_consumption.proofs.part_for.Tie as tie
+use Rattle.day_share.proofs.part_for.Statement.{statement}
+use Rattle.day_share.proofs.part_for.Tie as tie
 
 sub-result : tie.Need-sub-result
 sub-result c = search needs

@@ -1,10 +1,10 @@
--- `coefficients::are_winters` meets its contract. Each return is a case of the definition. Assumes nothing.
+-- `winters::are_winters` meets its contract. Each return is a case of the definition. Assumes nothing.
 use mathlib.Core.Path.{sym, _∙_}
 use borrow.Author.Tests.{eq-eqb, ne-eqb, not-true, not-false}
 use borrow.Author.Needs.{needs}
 use Rattle.coefficients.specs.Temperature.{winters-right}
-use Rattle.coefficients.proofs.are_winters.Statement.{statement}
-use Rattle.coefficients.proofs.are_winters.Tie as tie
+use Rattle.winters.proofs.are_winters.Statement.{statement}
+use Rattle.winters.proofs.are_winters.Tie as tie
 
 is-winter-requires : tie.Need-is-winter-requires
 is-winter-requires c κs = search needs

@@ -1,4 +1,4 @@
--- `coefficients::are_all_degrees` meets its contract. The rest of the list from the place reached is in range just where the whole list is. Assumes nothing.
+-- `winters::are_all_degrees` meets its contract. The rest of the list from the place reached is in range just where the whole list is. Assumes nothing.
 use mathlib.Core.Path.{_≡_, refl, sym, _∙_}
 use Prim.Native.Nat.{_-_, _≤_}
 use native.Mathlib.Omega.{arith}
@@ -6,10 +6,10 @@ use lib.ListN.{length, drop}
 use borrow.Author.Tests.{le-leb, lt-leb}
 use borrow.Author.Needs.{needs}
 use Rattle.numbers.specs.Lists.{every}
 use Rattle.coefficients.specs.Temperature.{MOST-DEGREES, is-degrees}
 use Rattle.numbers.proofs.Places.{every-next, every-stop, every-end}
-use Rattle.coefficients.proofs.are_all_degrees.Statement.{statement}
-use Rattle.coefficients.proofs.are_all_degrees.Tie as tie
+use Rattle.winters.proofs.are_all_degrees.Statement.{statement}
+use Rattle.winters.proofs.are_all_degrees.Tie as tie
 
 abbrev Inv-loop : tie.InvT-loop
 Inv-loop days i₀ i = (i ≤ length days) × (every is-degrees days ≡ every is-degrees (drop i days))
