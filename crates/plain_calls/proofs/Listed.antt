@@ -8,7 +8,7 @@ use Rattle.point_day.specs.Struct.{read}
 use Rattle.point_day.specs.declared.PointDay.{PointDay}
 use Rattle.inventory.specs.Inventory.{Answer, inventory, Afterwards}
 use Rattle.plain_day.specs.Layout.{is-laid-out, day-in}
-use Rattle.c_calls.specs.Listing.{plain-inventory, answer-number, counted}
+use Rattle.plain_calls.specs.Listing.{plain-inventory, answer-number, counted}
 
 -- the answer r and the two buffers afterwards
 abbrev pub Listed : List ℤ → List ℤ → ℕ → List ℤ → List ℤ → Type 0

@@ -23,7 +23,7 @@ use Rattle.point_day.specs.declared.Stage.the-variants.{Provisional, FinalProvi
 use Rattle.point_day.specs.declared.Measurement.{Measurement}
 use Rattle.point_day.specs.declared.Measurement.the-variants.{Unmeasured, Measured}
 use Rattle.plain_day.specs.Layout.{LENGTH, LAST-NUMBER, up-to, measurement-laid-out, head-laid-out, is-laid-out, stage-of, measurement-of, day-in, stage-number, emission-number, downstream-number, head, numbers-of}
-use Rattle.c_calls.specs.Plain.{given, plain-call}
+use Rattle.plain_calls.specs.Plain.{given, plain-call}
 
 -- user numbers have 16 bits, and the numbers before them are below 2^63
 pub record Small (d : PointDay) : Type 0 where

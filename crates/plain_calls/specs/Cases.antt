@@ -10,7 +10,7 @@ use Rattle.point_day.specs.Day.{fresh}
 use Rattle.point_day.specs.Calls.{verdict, join, line, line-right, cell-step, cell-in}
 use Rattle.point_day.specs.Struct.{user-at, read, padded, laid, any, faults, taken, called}
 use Rattle.plain_day.specs.Layout.{LENGTH, up-to, measurement-laid-out, head-laid-out, is-laid-out, day-in, head, numbers-of}
-use Rattle.c_calls.specs.Plain.{Plain, plain, plain-call, plain-fresh}
+use Rattle.plain_calls.specs.Plain.{Plain, plain, plain-call, plain-fresh}
 
 -- user 9 joins; then a line of kind 2, 10 kWh at 5 %: losses 0.5, rounded to 1
 unfoldable joined : List ℤ

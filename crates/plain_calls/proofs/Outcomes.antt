@@ -15,7 +15,7 @@ use Rattle.point_day.specs.Struct.{Outcome, outcome, called, rows-of}
 use Rattle.point_day.specs.declared.PointDay.{PointDay}
 use Rattle.stand_in_rows.specs.Rows.{rows}
 use Rattle.plain_day.specs.Layout.{is-laid-out, day-in}
-use Rattle.c_calls.specs.Plain.{plain, given, plain-call, rows-laid-out, plain-stand-in}
+use Rattle.plain_calls.specs.Plain.{plain, given, plain-call, rows-laid-out, plain-stand-in}
 
 module _ (call : PointDay → Outcome) (xs : List ℤ) where
   pub not-laid-out : is-laid-out xs ≡ false → plain 2 xs ≡ plain-call call xs
