@@ -1,5 +1,4 @@
 // The ranges of a point-day's amounts: its arrays number by number, and its whole amounts with their sum.
-ghost use mathlib.Core.Path.{_≡_};
 ghost use Prim.Native.Nat.{ℕ, _≤_, _<_};
 ghost use lib.ListN.{length};
 ghost use Rattle.numbers.specs.Sums.{atZ};

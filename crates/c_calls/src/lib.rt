@@ -1,3 +1,4 @@
+// The calls with C names, on a point-day in plain numbers that the caller lends.
 ghost use mathlib.Core.Path.{_≡_};
 ghost use Prim.Native.Nat.{_+_, _*_, _<_};
 ghost use lib.IntN.{pos};
@@ -8,8 +9,8 @@ ghost use Rattle.point_day.specs.Struct.{read, called};
 ghost use Rattle.stand_in_rows.specs.Rows.{rows};
 ghost use Rattle.inventory.specs.Inventory.{Afterwards};
 ghost use Rattle.plain_day.specs.Layout.{LENGTH, day-in};
-ghost use Rattle.c_calls.specs.Plain.{plain, plain-call, plain-fresh, rows-laid-out, misfits, rows-in, plain-stand-in};
-ghost use Rattle.c_calls.specs.Listing.{plain-inventory, answer-number, counted};
+ghost use Rattle.plain_calls.specs.Plain.{plain, plain-call, plain-fresh, rows-laid-out, misfits, rows-in, plain-stand-in};
+ghost use Rattle.plain_calls.specs.Listing.{plain-inventory, answer-number, counted};
 use inventory::InventoryAnswer;
 use plain_day::LENGTH;
 use point_day::AllotAnswer;

@@ -1,13 +1,8 @@
--- Document 01, "Type 1": C_m, a month's consumption, and a day's part of it. Assumes nothing.
-use mathlib.Core.Bool.{Bool}
-use mathlib.Core.Path.{_≡_, refl}
-use Prim.Native.Nat.{ℕ, _-_, _*_, _≤_}
-use Rattle.numbers.specs.Nearest.{nearest}
-use Rattle.numbers.specs.Sums.{pick}
-use Rattle.calendar.specs.Answers.{Answer, refused, given, tested, NO-BASIS}
-use Rattle.coefficients.specs.Temperature.{_over_, times, divided, rounded, MOST-DAYS}
+-- Document 01, "Type 1": C_m, a month's consumption. Assumes nothing.
+use Prim.Native.Nat.{ℕ, _*_, _≤_}
+use Rattle.coefficients.specs.Temperature.{_over_, times}
 use Rattle.coefficients.specs.declared.Fraction.{Fraction}
-use Rattle.supply.specs.Amounts.{THOUSAND, TEN-THOUSAND, limited}
+use Rattle.supply.specs.Amounts.{THOUSAND, TEN-THOUSAND}
 use Rattle.supply.specs.declared.Amount.{Amount}
 use Rattle.supply.specs.declared.Amount.the-variants.{Missing, Known}
 use Rattle.month_consumption.specs.declared.Basis.{Basis}
@@ -33,24 +28,7 @@ month-other Missing c (Known v) q f n = OfMonth (v over 1)
 month-other Missing c Missing (Known q) f n = OfMonth (q * f * n over THOUSAND)
 month-other Missing c Missing Missing f n = NoBasis
 
--- C_d = C_m × part / divisor, rounded once
-unfoldable pub day-of : Basis → ℕ → ℕ → Answer ℕ
-day-of NoBasis part divisor = refused NO-BASIS
-day-of (OfMonth m) part divisor = limited (rounded (divided (times part m) divisor))
-
--- a month's consumption that leaves room to be shared out within 64 bits, and the most that it is divided by
+-- a month's consumption that leaves room to be shared out within 64 bits
 abbrev pub SmallBasis : Basis → Type 0
 SmallBasis NoBasis = Unit {0}
 SmallBasis (OfMonth m) = (m .top ≤ 10000000000000000) × (1 ≤ m .bottom) × (m .bottom ≤ 10000000)
-
-abbrev pub MOST-DIVISOR : ℕ
-MOST-DIVISOR = THOUSAND * MOST-DAYS
-
--- the thousandths of C_m that the working days share, or the others
-abbrev pub part-of : Bool → ℕ → ℕ
-part-of working cf = pick working cf (THOUSAND - cf)
-
--- rounded once: 44.6 kWh over 30 days are 1.49 kWh a day. (45 over 30 would be 1.5, and so 2.)
-rounded-once : day-of (OfMonth (446 over 10)) 1 30 ≡ given 1
-unfolding day-of limited tested nearest
-rounded-once = refl

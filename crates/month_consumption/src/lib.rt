@@ -1,15 +1,12 @@
-// A month's consumption of a Type 1 point, and a day's part of it.
+// A month's consumption of a Type 1 point.
 ghost use mathlib.Core.Path.{_≡_};
 ghost use mathlib.Core.Bool.{true};
-ghost use Prim.Native.Nat.{_≤_, _-_};
-ghost use Rattle.numbers.specs.Sums.{pick};
+ghost use Prim.Native.Nat.{_≤_};
 ghost use Rattle.coefficients.specs.Temperature.{MOST-DAYS, Corrects};
-ghost use Rattle.supply.specs.Amounts.{THOUSAND, MOST-C-c, amount-right, consumption-said};
-ghost use Rattle.month_consumption.specs.MonthConsumption.{month-34, month-other, day-of, part-of, SmallBasis, MOST-DIVISOR};
-use calendar::NO_BASIS;
+ghost use Rattle.supply.specs.Amounts.{THOUSAND, MOST-C-c, amount-right};
+ghost use Rattle.month_consumption.specs.MonthConsumption.{month-34, month-other};
 use coefficients::Fraction;
 use supply::Amount;
-use supply::ConsumptionAnswer;
 use supply::THOUSAND;
 
 // A month's consumption as an exact fraction, if there is a basis for it.
@@ -80,39 +77,4 @@ pub fn month_of_other(
         });
     }
     Basis::NoBasis
-}
-
-// C_d: a part of C_m over a divisor, rounded once.
-pub fn day_of_month(basis: Basis, part: u64, divisor: u64) -> ConsumptionAnswer
-    requires { ⌜ SmallBasis basis × (part ≤ THOUSAND) × (1 ≤ divisor) × (divisor ≤ MOST-DIVISOR) ⌝ }
-    ensures { λ r. ⌜ consumption-said r ≡ day-of basis part divisor ⌝ }
-{
-    let Basis::OfMonth(m) = basis else {
-        return ConsumptionAnswer::Refused(NO_BASIS);
-    };
-    supply::limited_to(numbers::nearest(part * m.top, m.bottom * divisor))
-}
-
-// The thousandths of C_m that the working days share, or the others.
-pub fn part_for(working: bool, c_f: u32) -> u64
-    requires { ⌜ «c_f» ≤ THOUSAND ⌝ }
-    ensures { λ r. ⌜ r ≡ part-of working «c_f» ⌝ }
-{
-    if working {
-        c_f as u64
-    } else {
-        THOUSAND - c_f as u64
-    }
-}
-
-// The days that share them: N_lab working days of the month's N, or the N_res others.
-pub fn days_for(working: bool, all: u32, lab: u32) -> u64
-    requires { ⌜ lab ≤ all ⌝ }
-    ensures { λ r. ⌜ r ≡ pick working lab (all - lab) ⌝ }
-{
-    if working {
-        lab as u64
-    } else {
-        (all - lab) as u64
-    }
 }

@@ -12,7 +12,8 @@ use Rattle.day_types.specs.DayTypes.{day-type, is-working}
 use Rattle.months.specs.Months.{month-days, length-of, month-from, month-of}
 use Rattle.working_days.specs.WorkingDays.{working-mask, N-lab, N-res}
 use Rattle.supply.specs.Amounts.{limited}
-use Rattle.month_consumption.specs.MonthConsumption.{month-other, day-of}
+use Rattle.month_consumption.specs.MonthConsumption.{month-other}
+use Rattle.day_share.specs.DayShare.{day-of}
 use Rattle.type_1.specs.Type1.{other-right, other-toll}
 use Rattle.supply.specs.declared.Amount.the-variants.{Missing, Known}
 

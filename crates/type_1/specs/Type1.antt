@@ -2,7 +2,7 @@
 use mathlib.Core.Bool.{Bool, true, not}
 use mathlib.Core.List.{List, [], _∷_}
 use mathlib.Core.Path.{_≡_, refl}
-use Prim.Native.Nat.{ℕ, _-_, _*_}
+use Prim.Native.Nat.{ℕ, _*_}
 use lib.Dec.{leb, eqb}
 use lib.ListN.{length, replicate}
 use Rattle.numbers.specs.Sums.{pick}
@@ -13,7 +13,8 @@ use Rattle.day_types.specs.DayTypes.{is-working}
 use Rattle.months.specs.Months.{month-days, length-of, month-from, month-of, last-year-days}
 use Rattle.working_days.specs.WorkingDays.{N-lab, N-res}
 use Rattle.months.specs.declared.Month.{Month}
-use Rattle.month_consumption.specs.MonthConsumption.{month-34, month-other, day-of, part-of}
+use Rattle.month_consumption.specs.MonthConsumption.{month-34, month-other}
+use Rattle.day_share.specs.DayShare.{day-of, part-of}
 use Rattle.coefficients.specs.Temperature.{is-degrees, C-temp1}
 use Rattle.supply.specs.Amounts.{THOUSAND, MOST-C-c, amount-right}
 use Rattle.supply.specs.declared.Amount.{Amount}

@@ -1,6 +1,6 @@
 // Type 1 points: a month's consumption, shared out over its days.
 ghost use mathlib.Core.Path.{_≡_};
-ghost use Prim.Native.Nat.{_≤_, _-_};
+ghost use Prim.Native.Nat.{_≤_};
 ghost use lib.Dec.{leb};
 ghost use Rattle.numbers.specs.Lists.{both};
 ghost use Rattle.calendar.specs.Days.{LAST-DAY};
@@ -36,7 +36,7 @@ fn are_last_days(day: u32, last_days: &[u32]) -> bool
     if last_days.len() != months::days_last_year(month) as usize {
         return false;
     }
-    coefficients::are_all_degrees(last_days)
+    winters::are_all_degrees(last_days)
 }
 
 // Whether everything that is given for a point of toll 3.4 is in its range.
@@ -56,7 +56,7 @@ fn is_toll_34(
     if !are_amounts(last_year, last_month, year_flow) {
         return false;
     }
-    if !coefficients::are_degrees(g) {
+    if !winters::are_degrees(g) {
         return false;
     }
     are_last_days(day, last_days)
@@ -76,11 +76,11 @@ pub fn toll_34(
     if !is_toll_34(day, last_year, g, last_days, last_month, year_flow) {
         return ConsumptionAnswer::Refused(OUT_OF_RANGE);
     }
-    let mean = coefficients::mean_of(last_days);
+    let mean = winters::mean_of(last_days);
     let correction = coefficients::correction_of(g, mean);
     let basis = month_consumption::month_of_34(last_year, correction, last_month, year_flow);
     let month = months::month_of_day(day);
-    month_consumption::day_of_month(basis, 1, month.days as u64)
+    day_share::day_of_month(basis, 1, month.days as u64)
 }
 
 // Whether the coefficients of the other tolls are in their ranges.
@@ -154,10 +154,6 @@ pub fn other_toll(
     );
     let working = day_types::is_working(day_types::type_of_day(day, holidays));
     let lab = working_days::working_days(month, holidays);
-    let days = month_consumption::days_for(working, month.days, lab);
-    month_consumption::day_of_month(
-        basis,
-        month_consumption::part_for(working, c_f),
-        THOUSAND * days,
-    )
+    let days = day_share::days_for(working, month.days, lab);
+    day_share::day_of_month(basis, day_share::part_for(working, c_f), THOUSAND * days)
 }

@@ -5,9 +5,9 @@ ghost use Rattle.type_2.specs.Type2.{type-2-right, type-2, year-right, p
 use calendar::NO_BASIS;
 use calendar::OUT_OF_RANGE;
 use calendar::TOO_LARGE;
-use coefficients::FEWEST_DAYS;
-use coefficients::MOST_DAYS;
 use supply::ConsumptionAnswer;
+use winters::FEWEST_DAYS;
+use winters::MOST_DAYS;
 
 pub enum ProfileAnswer {
     Refused(u8),
@@ -39,10 +39,10 @@ fn is_type_2(
     if TRILLION < profile {
         return false;
     }
-    if !coefficients::are_degrees(g) {
+    if !winters::are_degrees(g) {
         return false;
     }
-    coefficients::are_winters(winters, first, second)
+    winters::are_winters(winters, first, second)
 }
 
 // The consumption of Type 2 consumers of one profile, on a gas day with g degree days, after one or two winters.
@@ -63,7 +63,7 @@ pub fn type_2(
     if TRILLION < product {
         return ConsumptionAnswer::Refused(TOO_LARGE);
     }
-    let mean = coefficients::mean_of_winters(winters, first, second);
+    let mean = winters::mean_of_winters(winters, first, second);
     let correction = coefficients::correction_of(g, mean);
     supply::limited_to(numbers::nearest(product * correction.top, correction.bottom * KILO))
 }

@@ -2,7 +2,7 @@
 use mathlib.Core.Path.{_≡_, sym, _∙_}
 use borrow.Author.Needs.{needs}
 use borrow.Author.Tests.{not-true, not-false}
-use Rattle.c_calls.proofs.Outcomes.{rows-lengths, rows-held, rows-other}
+use Rattle.plain_calls.proofs.Outcomes.{rows-lengths, rows-held, rows-other}
 use Rattle.c_calls.proofs.rows_in.Statement.{statement}
 use Rattle.c_calls.proofs.rows_in.Tie as tie
 

@@ -2,7 +2,7 @@
 use lib.ListN.{length}
 use borrow.Author.Tests.{eq-eqb, ne-eqb}
 use Rattle.point_day.specs.Limits.{ROWS}
-use Rattle.c_calls.specs.Plain.{rows-laid-out}
+use Rattle.plain_calls.specs.Plain.{rows-laid-out}
 use Rattle.c_calls.proofs.rows_laid_out.Statement.{statement}
 use Rattle.c_calls.proofs.rows_laid_out.Tie as tie
 

@@ -10,7 +10,7 @@ use borrow.Author.Tests.{not-true, not-false}
 use Rattle.inventory.specs.Inventory.{refused, written, answer-of}
 use Rattle.plain_day.specs.Layout.{is-laid-out}
 use Rattle.plain_day.proofs.Ranges.{laid-length, laid-users}
-use Rattle.c_calls.proofs.Listed.{none-listed, as-listed}
+use Rattle.plain_calls.proofs.Listed.{none-listed, as-listed}
 use borrow.Author.Needs.{needs}
 use Rattle.c_calls.proofs.seatpomelo_inventory.Statement.{statement}
 use Rattle.c_calls.proofs.seatpomelo_inventory.Tie as tie

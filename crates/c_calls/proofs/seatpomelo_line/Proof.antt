@@ -9,9 +9,9 @@ use Rattle.point_day.specs.Calls.{refused, losses-added, line}
 use Rattle.point_day.specs.Answers.{line-answer}
 use Rattle.point_day.specs.Struct.{outcome, called}
 use Rattle.plain_day.specs.Layout.{is-laid-out, numbers-of}
-use Rattle.c_calls.specs.Plain.{plain}
+use Rattle.plain_calls.specs.Plain.{plain}
 use Rattle.plain_day.proofs.Ranges.{laid-length, laid-users}
-use Rattle.c_calls.proofs.Outcomes.{not-laid-out, laid-out}
+use Rattle.plain_calls.proofs.Outcomes.{not-laid-out, laid-out}
 use borrow.Author.Needs.{needs}
 use Rattle.c_calls.proofs.seatpomelo_line.Statement.{statement}
 use Rattle.c_calls.proofs.seatpomelo_line.Tie as tie

@@ -10,9 +10,9 @@ use Rattle.point_day.specs.Calls.{refused, rows-looked-at, stand-in}
 use Rattle.point_day.specs.Answers.{stand-in-answer}
 use Rattle.point_day.specs.Struct.{outcome, called, rows-of}
 use Rattle.plain_day.specs.Layout.{is-laid-out, numbers-of}
-use Rattle.c_calls.specs.Plain.{plain, rows-in}
+use Rattle.plain_calls.specs.Plain.{plain, rows-in}
 use Rattle.plain_day.proofs.Ranges.{laid-length, laid-users}
-use Rattle.c_calls.proofs.Outcomes.{not-laid-out, laid-out}
+use Rattle.plain_calls.proofs.Outcomes.{not-laid-out, laid-out}
 use borrow.Author.Needs.{needs}
 use Rattle.c_calls.proofs.seatpomelo_stand_in.Statement.{statement}
 use Rattle.c_calls.proofs.seatpomelo_stand_in.Tie as tie

@@ -1,7 +1,7 @@
 -- `coefficients::average_of` meets its contract. The products are small. Assumes nothing.
 use mathlib.Core.Path.{refl}
 use native.Mathlib.Omega.{arith}
-use Rattle.coefficients.proofs.Winters.{cross, bottoms}
+use Rattle.coefficients.proofs.Fractions.{cross, bottoms}
 use Rattle.coefficients.proofs.average_of.Statement.{statement}
 use Rattle.coefficients.proofs.average_of.Tie as tie
 

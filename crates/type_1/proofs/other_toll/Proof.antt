@@ -14,7 +14,8 @@ use Rattle.months.specs.Months.{month-of}
 use Rattle.working_days.specs.WorkingDays.{N-lab, N-res}
 use Rattle.months.proofs.Months.{Holds, month-holds}
 use Rattle.working_days.proofs.Masks.{working-all}
-use Rattle.month_consumption.specs.MonthConsumption.{month-other, day-of, SmallBasis, part-of}
+use Rattle.month_consumption.specs.MonthConsumption.{month-other, SmallBasis}
+use Rattle.day_share.specs.DayShare.{day-of, part-of}
 use Rattle.type_1.specs.Type1.{sharing, other-toll}
 use Rattle.month_consumption.proofs.Bases.{small-other}
 use Rattle.type_1.proofs.Tolls.{RightOther, right-other, Shares, shares}

@@ -1,0 +1,46 @@
+// A day's share of a month's consumption of a Type 1 point.
+ghost use mathlib.Core.Path.{_≡_};
+ghost use Prim.Native.Nat.{_≤_, _-_};
+ghost use Rattle.numbers.specs.Sums.{pick};
+ghost use Rattle.supply.specs.Amounts.{THOUSAND, consumption-said};
+ghost use Rattle.month_consumption.specs.MonthConsumption.{SmallBasis};
+ghost use Rattle.day_share.specs.DayShare.{day-of, part-of, MOST-DIVISOR};
+use calendar::NO_BASIS;
+use month_consumption::Basis;
+use supply::ConsumptionAnswer;
+use supply::THOUSAND;
+
+// C_d: a part of C_m over a divisor, rounded once.
+pub fn day_of_month(basis: Basis, part: u64, divisor: u64) -> ConsumptionAnswer
+    requires { ⌜ SmallBasis basis × (part ≤ THOUSAND) × (1 ≤ divisor) × (divisor ≤ MOST-DIVISOR) ⌝ }
+    ensures { λ r. ⌜ consumption-said r ≡ day-of basis part divisor ⌝ }
+{
+    let Basis::OfMonth(m) = basis else {
+        return ConsumptionAnswer::Refused(NO_BASIS);
+    };
+    supply::limited_to(numbers::nearest(part * m.top, m.bottom * divisor))
+}
+
+// The thousandths of C_m that the working days share, or the others.
+pub fn part_for(working: bool, c_f: u32) -> u64
+    requires { ⌜ «c_f» ≤ THOUSAND ⌝ }
+    ensures { λ r. ⌜ r ≡ part-of working «c_f» ⌝ }
+{
+    if working {
+        c_f as u64
+    } else {
+        THOUSAND - c_f as u64
+    }
+}
+
+// The days that share them: N_lab working days of the month's N, or the N_res others.
+pub fn days_for(working: bool, all: u32, lab: u32) -> u64
+    requires { ⌜ lab ≤ all ⌝ }
+    ensures { λ r. ⌜ r ≡ pick working lab (all - lab) ⌝ }
+{
+    if working {
+        lab as u64
+    } else {
+        (all - lab) as u64
+    }
+}

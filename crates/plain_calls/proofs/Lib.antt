@@ -1,0 +1,4 @@
+pub mod Outcomes
+pub mod Refusals
+pub mod Listed
+pub mod ReadBack
