@@ -2,19 +2,16 @@
 use mathlib.Core.Path.{_≡_, refl}
 use mathlib.Core.Bool.{Bool, true, false}
 use mathlib.Core.List.{List}
-use Prim.Native.Nat.{ℕ}
 use lib.Dec.{eqb}
 use lib.IntN.{ℤ, pos}
 use lib.ListN.{length}
 use Rattle.numbers.specs.Sums.{pick}
-use Rattle.point_day.specs.Limits.{TOLERANCE}
 use Rattle.point_day.specs.Day.{fresh}
-use Rattle.point_day.specs.Calls.{Answer, refused, done, losses-added, rows-looked-at, within-tolerance, revision-assigned, stand-in}
-use Rattle.point_day.specs.Struct.{Outcome, called, laid, rows-of}
+use Rattle.point_day.specs.Calls.{Answer, refused, done, losses-added, rows-looked-at, within-tolerance, revision-assigned}
+use Rattle.point_day.specs.Struct.{Outcome, laid}
 use Rattle.point_day.specs.declared.PointDay.{PointDay}
-use Rattle.stand_in_rows.specs.Rows.{rows}
 use Rattle.plain_day.specs.Layout.{LENGTH, is-laid-out, day-in, numbers-of}
-use Rattle.plain_calls.specs.Plain.{Plain, plain, given, plain-call, plain-fresh, rows-laid-out, plain-stand-in}
+use Rattle.plain_calls.specs.Plain.{Plain, plain, given, plain-call, plain-fresh}
 
 -- an answer other than 0, and the numbers before it
 abbrev pub Stays : Plain → List ℤ → Type 0
@@ -42,9 +39,3 @@ call-stays call xs =
 pub fresh-stays : (xs : List ℤ) → Stays (plain-fresh xs) xs
 unfolding plain-fresh
 fresh-stays xs = stays-or (eqb (length xs) LENGTH) (plain 0 (numbers-of (pos 0) (laid fresh))) xs (λ h. absurd (h refl))
-
-pub stand-in-stays : (cs us : List ℕ) (zs xs : List ℤ) → Stays (plain-stand-in cs us zs xs) xs
-unfolding plain-stand-in
-stand-in-stays cs us zs xs =
-    let call = called (stand-in TOLERANCE (rows-of (rows cs us zs))) in
-    stays-or (rows-laid-out cs us zs) (plain-call call xs) xs (call-stays call xs)

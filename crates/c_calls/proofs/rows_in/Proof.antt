@@ -1,5 +1,5 @@
 -- `c_calls::rows_in` meets its contract. Assumes nothing.
-use mathlib.Core.Path.{_≡_, sym, _∙_}
+use mathlib.Core.Path.{sym, _∙_}
 use borrow.Author.Needs.{needs}
 use borrow.Author.Tests.{not-true, not-false}
 use Rattle.plain_calls.proofs.Outcomes.{rows-lengths, rows-held, rows-other}
@@ -14,7 +14,7 @@ misfits-requires c κs = search needs
 
 returns : tie.Need-returns
 returns c =
-    let s = c .before .before .before .before in
+    let s = c .before .before .before .before .before in
     c .misfits .ensures ∙ rows-other (s .args .counts .now) (s .args .users .now) (s .args .amounts .now) (sym (c .before .before .rows-laid-out .ensures) ∙ not-true _ (c .before .if1 .taken))
 
 copied-rows-requires : tie.Need-copied-rows-requires

@@ -25,7 +25,7 @@ same-length c = search needs
 
 returns : tie.Need-returns
 returns c =
-    let s = c .before .before .before in
+    let s = c .before .before .before .before .before in
     not-laid-out (called (stand-in TOLERANCE (rows-of (rows-in (s .args .counts .now) (s .args .users .now) (s .args .amounts .now))))) (s .args .day .now) (sym (c .before .is-laid-out .ensures) ∙ not-true _ (c .if1 .taken))
 
 rows-in-requires : tie.Need-rows-in-requires
@@ -33,7 +33,7 @@ rows-in-requires c κs = search needs
 
 day-in-requires : tie.Need-day-in-requires
 day-in-requires c κs =
-    let xs = c .before .before .before .before .before .args .day .now in
+    let xs = c .before .before .before .before .before .before .before .args .day .now in
     let l : is-laid-out xs ≡ true = sym (c .before .before .before .is-laid-out .ensures) ∙ not-false _ (c .before .before .if1 .left) in
     (laid-length xs l, laid-users xs l)
 
@@ -51,7 +51,7 @@ to-signed-requires c κs = search needs
 
 write-requires : tie.Need-write-requires
 write-requires c κs =
-    let xs = c .before .before .before .before .before .before .before .before .before .before .before .before .before .args .day .now in
+    let xs = c .before .before .before .before .before .before .before .before .before .before .before .before .before .before .before .args .day .now in
     laid-length xs (sym (c .before .before .before .before .before .before .before .before .before .before .before .is-laid-out .ensures) ∙ not-false _ (c .before .before .before .before .before .before .before .before .before .before .if1 .left))
 
 same-length-2 : tie.Need-same-length-2
@@ -59,7 +59,7 @@ same-length-2 c = search needs
 
 returns-2 : tie.Need-returns-2
 returns-2 c =
-    let s = c .before .before .before .before .before .before .before .before .before .before .before in
+    let s = c .before .before .before .before .before .before .before .before .before .before .before .before .before in
     let xs = s .args .day .now in
     let m = c .before .before .before .before .stand-in in
     let a = c .before .answer .given in
@@ -72,7 +72,7 @@ same-length-3 c = search needs
 
 returns-3 : tie.Need-returns-3
 returns-3 c =
-    let s = c .before .before .before .before .before .before .before .before .before .before .before .before .before .before .before in
+    let s = c .before .before .before .before .before .before .before .before .before .before .before .before .before .before .before .before .before in
     let xs = s .args .day .now in
     let m = c .before .before .before .before .before .before .before .before .stand-in in
     let a = c .before .before .before .before .before .answer2 .given in
