@@ -1,4 +1,4 @@
-// Largest remainder: the sum of the weights, whole units and remainders, and which remainder is served before which.
+// Proration: the sum of the weights, the whole units and remainders, and which remainder is served before which.
 ghost use mathlib.Core.Path.{_≡_};
 ghost use mathlib.Core.List.{_++_};
 ghost use Prim.Native.Nat.{_≤_, _<_};

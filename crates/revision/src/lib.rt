@@ -3,26 +3,14 @@ ghost use mathlib.Core.Path.{_≡_};
 ghost use Rattle.numbers.specs.Lists.{both};
 ghost use Rattle.point_day.specs.Limits.{TOLERANCE};
 ghost use Rattle.point_day.specs.Day.{provisional};
-ghost use Rattle.point_day.specs.Calls.{refused, within-tolerance, revise};
+ghost use Rattle.point_day.specs.Calls.{within-tolerance, revise};
 ghost use Rattle.point_day.specs.Answers.{revise-answer};
 ghost use Rattle.point_day.specs.Struct.{outcome, called};
-ghost use Rattle.revision.specs.Assigning.{Assignable};
-ghost use Rattle.outstanding.specs.Revisions.{wholes};
 use point_day::PointDay;
 use point_day::ReviseAnswer;
 use point_day::ReviseResult;
 use point_day::Stage;
 use point_day::TOLERANCE;
-use point_day::USERS;
-
-fn refuse(number: u8, day: PointDay) -> ReviseResult
-    ensures { λ r. ⌜ outcome (revise-answer (r .answer)) (r .day) ≡ outcome (refused number) day ⌝ }
-{
-    ReviseResult {
-        answer: ReviseAnswer::Refused(number),
-        day: day,
-    }
-}
 
 // Whether the stage is provisional allotted.
 fn is_revisable(stage: Stage, allotted: bool) -> bool
@@ -44,34 +32,16 @@ fn within(amount: i64, day: PointDay) -> ReviseResult
     }
 }
 
-// R assigned: its shares added to the revisions; refused if a whole amount would be too large.
-fn assign(day: PointDay, amount: i64, column: [i64; USERS]) -> ReviseResult
-    requires { ⌜ Assignable day amount × (column ≡ wholes day) ⌝ }
-    ensures { λ r. ⌜ outcome (revise-answer (r .answer)) (r .day) ≡ called (revise TOLERANCE) day ⌝ }
-{
-    let shares = outstanding::share_column(day, amount, column);
-    let before = day.revision;
-    let revision = outstanding::added(before, shares);
-    let next = outstanding::with_revision(day, revision);
-    if taken::any_too_large(next) {
-        return refuse(12, day);
-    }
-    ReviseResult {
-        answer: ReviseAnswer::Assigned(amount),
-        day: next,
-    }
-}
-
 // Revise: what net has over everything allotted, if outside tolerance, is added to the revisions.
 pub fn revise(day: PointDay) -> ReviseResult
     ensures { λ r. ⌜ outcome (revise-answer (r .answer)) (r .day) ≡ called (revise TOLERANCE) day ⌝ }
 {
     if !taken::is_taken(day) {
-        return refuse(2, day);
+        return assignment::refuse(2, day);
     }
     let stage = day.stage;
     if !is_revisable(stage, day.allotted) {
-        return refuse(1, day);
+        return assignment::refuse(1, day);
     }
     let column = outstanding::whole_column(day);
     let amount = outstanding::outstanding(day, column);
@@ -79,7 +49,7 @@ pub fn revise(day: PointDay) -> ReviseResult
         return within(amount, day);
     }
     if columns::any_negative(&column) {
-        return refuse(11, day);
+        return assignment::refuse(11, day);
     }
-    assign(day, amount, column)
+    assignment::assign(day, amount, column)
 }

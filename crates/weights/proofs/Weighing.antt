@@ -11,7 +11,7 @@ use lib.ListN.{length, getD, drop, length-map}
 use lib.Seq.{getD-take, getD-drop}
 use mir.Syntax.{w64}
 use mir.Val.{ofZ, toZ, SFits, Fits}
-use Rattle.numbers.specs.Sums.{pick, atZ, total, Bounded}
+use Rattle.numbers.specs.Sums.{pick, atZ, Bounded}
 use Rattle.numbers.specs.Lists.{zip}
 use Rattle.numbers.specs.Amounts.{Between}
 use Rattle.numbers.proofs.Amounts.{pos-is}

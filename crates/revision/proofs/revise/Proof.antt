@@ -13,7 +13,7 @@ use Rattle.point_day.specs.Calls.{within-tolerance, negative}
 use Rattle.point_day.specs.Struct.{taken, outcome}
 use Rattle.point_day.proofs.Called.{called-untaken}
 use Rattle.outstanding.specs.Revisions.{outstanding}
-use Rattle.revision.proofs.Revising.{revise-1, revise-within, revise-11}
+use Rattle.assignment.proofs.Revising.{revise-1, revise-within, revise-11}
 use borrow.Author.Needs.{needs}
 use Rattle.revision.proofs.revise.Statement.{statement}
 use Rattle.revision.proofs.revise.Tie as tie

@@ -1,10 +1,10 @@
--- `split::split` meets its contract: whole units, then the units left over. Assumes nothing.
+-- `largest_remainder::split` meets its contract: whole units, then the units left over. Assumes nothing.
 use native.Mathlib.Nat.{le-trans}
 use native.Mathlib.Omega.{arith}
-use Rattle.split.proofs.Steps.{given-le, floor-small, both-steps}
+use Rattle.largest_remainder.proofs.Steps.{given-le, floor-small, both-steps}
 use borrow.Author.Needs.{needs}
-use Rattle.split.proofs.split.Statement.{statement}
-use Rattle.split.proofs.split.Tie as tie
+use Rattle.largest_remainder.proofs.split.Statement.{statement}
+use Rattle.largest_remainder.proofs.split.Tie as tie
 
 floors-requires : tie.Need-floors-requires
 floors-requires c κs = search needs

@@ -1,9 +1,9 @@
--- `split::prorate` meets its contract: of weights that are all 0 each counts as 1. Assumes nothing.
+-- `largest_remainder::prorate` meets its contract: of weights that are all 0 each counts as 1. Assumes nothing.
 use Rattle.proration.proofs.Prorated.{from-none, from-some}
 use borrow.Author.Needs.{needs}
 use native.Mathlib.Omega.{arith}
-use Rattle.split.proofs.prorate.Statement.{statement}
-use Rattle.split.proofs.prorate.Tie as tie
+use Rattle.largest_remainder.proofs.prorate.Statement.{statement}
+use Rattle.largest_remainder.proofs.prorate.Tie as tie
 
 split-evenly-requires : tie.Need-split-evenly-requires
 split-evenly-requires c κs = search needs

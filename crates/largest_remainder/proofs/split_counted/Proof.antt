@@ -1,11 +1,11 @@
--- `split::split_counted` meets its contract. Assumes nothing.
+-- `largest_remainder::split_counted` meets its contract. Assumes nothing.
 use mathlib.Core.Path.{sym}
 use lib.ListN.{length}
 use Rattle.proration.proofs.Prorated.{take-long}
 use native.Mathlib.Omega.{arith}
 use borrow.Author.Needs.{needs}
-use Rattle.split.proofs.split_counted.Statement.{statement}
-use Rattle.split.proofs.split_counted.Tie as tie
+use Rattle.largest_remainder.proofs.split_counted.Statement.{statement}
+use Rattle.largest_remainder.proofs.split_counted.Tie as tie
 
 few-requires : tie.Need-few-requires
 few-requires c κs = search needs

@@ -1,11 +1,11 @@
--- `split::split_evenly` meets its contract. Assumes nothing.
+-- `largest_remainder::split_evenly` meets its contract. Assumes nothing.
 use mathlib.Core.Path.{sym}
 use Rattle.proration.specs.Proration.{PARTIES, WEIGHT}
 use Rattle.proration.proofs.Prorated.{take-same, take-long, ones-total, ones-bounded, evenly}
 use borrow.Author.Needs.{needs}
 use native.Mathlib.Omega.{arith}
-use Rattle.split.proofs.split_evenly.Statement.{statement}
-use Rattle.split.proofs.split_evenly.Tie as tie
+use Rattle.largest_remainder.proofs.split_evenly.Statement.{statement}
+use Rattle.largest_remainder.proofs.split_evenly.Tie as tie
 
 few-requires : tie.Need-few-requires
 few-requires c κs = search needs

@@ -1,4 +1,4 @@
--- `revision::assign` meets its contract. Assumes nothing.
+-- `assignment::assign` meets its contract. Assumes nothing.
 use mathlib.Core.Path.{_≡_, refl, sym, ap, ap₂, _∙_}
 use lib.Dec.{lit≤}
 use lib.IntN.{ℤ, _+ℤ_}
@@ -13,10 +13,10 @@ use Rattle.point_day.specs.Struct.{read, outcome}
 use Rattle.point_day.specs.declared.PointDay.{PointDay}
 use Rattle.outstanding.specs.Revisions.{outstanding, shares, with-revision}
 use Rattle.outstanding.proofs.Columns.{amount-small, shares-small, revisions-small}
-use Rattle.revision.proofs.Revising.{summable-after, revise-12, revise-done}
+use Rattle.assignment.proofs.Revising.{summable-after, revise-12, revise-done}
 use borrow.Author.Needs.{needs}
-use Rattle.revision.proofs.assign.Statement.{statement}
-use Rattle.revision.proofs.assign.Tie as tie
+use Rattle.assignment.proofs.assign.Statement.{statement}
+use Rattle.assignment.proofs.assign.Tie as tie
 
 share-column-requires : tie.Need-share-column-requires
 share-column-requires c κs =
