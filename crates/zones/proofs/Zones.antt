@@ -1,21 +1,11 @@
--- The provinces' values and zones, each as a list, and the zone rule for each province. Assumes nothing.
-use mathlib.Core.Path.{_≡_, ap₂}
-use mathlib.Core.List.{map}
+-- The zone rule for each province. Assumes nothing.
+use mathlib.Core.Path.{_≡_}
 use Prim.Native.Nat.{ℕ, _<_}
 use lib.Dec.{eqb}
-use lib.ListN.{getD, List·getD-map}
+use lib.ListN.{getD}
 use borrow.Author.Tests.{eqb-true}
-use Rattle.zones.specs.declared.Province.{Province}
 use Rattle.zones.specs.Zones.{PROVINCES, _in-zone_, provinces, counted, zone-of, zone-rule}
 use Rattle.numbers.proofs.Places.{every-at}
 
 pub zone-at : (i : ℕ) → i < PROVINCES → getD provinces i (0 in-zone 0) .zone ≡ zone-of (getD provinces i (0 in-zone 0) .mean)
 zone-at i l = eqb-true _ _ (every-at (λ p. eqb (p .zone) (zone-of (p .mean))) (0 in-zone 0) provinces zone-rule i (rw counted l))
-
-pub value-and-zone : (i : ℕ)
-    → (getD (map (λ (p : Province). p .mean) provinces) i 0 in-zone getD (map (λ (p : Province). p .zone) provinces) i 0)
-    ≡ getD provinces i (0 in-zone 0)
-value-and-zone i =
-    ap₂ _in-zone_
-    (List·getD-map (λ (p : Province). p .mean) provinces i (0 in-zone 0))
-    (List·getD-map (λ (p : Province). p .zone) provinces i (0 in-zone 0))

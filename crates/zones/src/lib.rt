@@ -43,108 +43,56 @@ pub fn zone_of(hundredths: u32) -> ZoneAnswer
     ZoneAnswer::Zone(4)
 }
 
-// The degree-day values of the provinces, in the order of section 1.6 of PD-02.
-const VALUES: [u32; 48] = [
-    144, // A Coruña
-    117, // Alicante
-    56, // Almería
-    36, // Cádiz
-    118, // Castellón
-    139, // Córdoba
-    85, // Huelva
-    117, // Baleares
-    59, // Málaga
-    103, // Murcia
-    82, // Sevilla
-    164, // Valencia
-    182, // Asturias
-    180, // Badajoz
-    184, // Barcelona
-    200, // Bizkaia
-    220, // Cáceres
-    178, // Cantabria
-    215, // Gipuzkoa
-    200, // Jaén
-    221, // Ourense
-    196, // Pontevedra
-    200, // Tarragona
-    330, // Albacete
-    275, // Ciudad Real
-    364, // Cuenca
-    250, // Girona
-    279, // Granada
-    352, // Huesca
-    314, // La Rioja
-    295, // Lleida
-    360, // Lugo
-    318, // Madrid
-    352, // Navarra
-    267, // Toledo
-    264, // Zaragoza
-    402, // Araba
-    474, // Ávila
-    506, // Burgos
-    523, // Guadalajara
-    492, // León
-    517, // Palencia
-    423, // Salamanca
-    427, // Segovia
-    525, // Soria
-    431, // Teruel
-    405, // Valladolid
-    414, // Zamora
-];
-
-// The zones of the provinces, in the same order.
-const ZONES: [u32; 48] = [
-    1, // A Coruña
-    1, // Alicante
-    1, // Almería
-    1, // Cádiz
-    1, // Castellón
-    1, // Córdoba
-    1, // Huelva
-    1, // Baleares
-    1, // Málaga
-    1, // Murcia
-    1, // Sevilla
-    1, // Valencia
-    2, // Asturias
-    2, // Badajoz
-    2, // Barcelona
-    2, // Bizkaia
-    2, // Cáceres
-    2, // Cantabria
-    2, // Gipuzkoa
-    2, // Jaén
-    2, // Ourense
-    2, // Pontevedra
-    2, // Tarragona
-    3, // Albacete
-    3, // Ciudad Real
-    3, // Cuenca
-    3, // Girona
-    3, // Granada
-    3, // Huesca
-    3, // La Rioja
-    3, // Lleida
-    3, // Lugo
-    3, // Madrid
-    3, // Navarra
-    3, // Toledo
-    3, // Zaragoza
-    4, // Araba
-    4, // Ávila
-    4, // Burgos
-    4, // Guadalajara
-    4, // León
-    4, // Palencia
-    4, // Salamanca
-    4, // Segovia
-    4, // Soria
-    4, // Teruel
-    4, // Valladolid
-    4, // Zamora
+// The provinces in the order of section 1.6 of PD-02.
+const PROVINCES: [Province; 48] = [
+    Province { mean: 144, zone: 1 }, // A Coruña
+    Province { mean: 117, zone: 1 }, // Alicante
+    Province { mean: 56, zone: 1 }, // Almería
+    Province { mean: 36, zone: 1 }, // Cádiz
+    Province { mean: 118, zone: 1 }, // Castellón
+    Province { mean: 139, zone: 1 }, // Córdoba
+    Province { mean: 85, zone: 1 }, // Huelva
+    Province { mean: 117, zone: 1 }, // Baleares
+    Province { mean: 59, zone: 1 }, // Málaga
+    Province { mean: 103, zone: 1 }, // Murcia
+    Province { mean: 82, zone: 1 }, // Sevilla
+    Province { mean: 164, zone: 1 }, // Valencia
+    Province { mean: 182, zone: 2 }, // Asturias
+    Province { mean: 180, zone: 2 }, // Badajoz
+    Province { mean: 184, zone: 2 }, // Barcelona
+    Province { mean: 200, zone: 2 }, // Bizkaia
+    Province { mean: 220, zone: 2 }, // Cáceres
+    Province { mean: 178, zone: 2 }, // Cantabria
+    Province { mean: 215, zone: 2 }, // Gipuzkoa
+    Province { mean: 200, zone: 2 }, // Jaén
+    Province { mean: 221, zone: 2 }, // Ourense
+    Province { mean: 196, zone: 2 }, // Pontevedra
+    Province { mean: 200, zone: 2 }, // Tarragona
+    Province { mean: 330, zone: 3 }, // Albacete
+    Province { mean: 275, zone: 3 }, // Ciudad Real
+    Province { mean: 364, zone: 3 }, // Cuenca
+    Province { mean: 250, zone: 3 }, // Girona
+    Province { mean: 279, zone: 3 }, // Granada
+    Province { mean: 352, zone: 3 }, // Huesca
+    Province { mean: 314, zone: 3 }, // La Rioja
+    Province { mean: 295, zone: 3 }, // Lleida
+    Province { mean: 360, zone: 3 }, // Lugo
+    Province { mean: 318, zone: 3 }, // Madrid
+    Province { mean: 352, zone: 3 }, // Navarra
+    Province { mean: 267, zone: 3 }, // Toledo
+    Province { mean: 264, zone: 3 }, // Zaragoza
+    Province { mean: 402, zone: 4 }, // Araba
+    Province { mean: 474, zone: 4 }, // Ávila
+    Province { mean: 506, zone: 4 }, // Burgos
+    Province { mean: 523, zone: 4 }, // Guadalajara
+    Province { mean: 492, zone: 4 }, // León
+    Province { mean: 517, zone: 4 }, // Palencia
+    Province { mean: 423, zone: 4 }, // Salamanca
+    Province { mean: 427, zone: 4 }, // Segovia
+    Province { mean: 525, zone: 4 }, // Soria
+    Province { mean: 431, zone: 4 }, // Teruel
+    Province { mean: 405, zone: 4 }, // Valladolid
+    Province { mean: 414, zone: 4 }, // Zamora
 ];
 
 // The value and the zone of a province, numbered from 1.
@@ -158,7 +106,9 @@ pub fn province_of(number: u32) -> ProvinceAnswer
         return ProvinceAnswer::Refused(OUT_OF_RANGE);
     }
     let i = number as usize - 1;
-    let value = VALUES[i];
-    let zone = ZONES[i];
-    ProvinceAnswer::Of { value, zone }
+    let p = PROVINCES[i];
+    ProvinceAnswer::Of {
+        value: p.mean,
+        zone: p.zone,
+    }
 }

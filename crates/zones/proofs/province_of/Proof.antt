@@ -1,11 +1,9 @@
--- `zones::province_of` meets its contract. The tables are the values and the zones of the definition's. Assumes nothing.
-use mathlib.Core.Path.{ap}
-use Prim.Native.Nat.{_-_}
+-- `zones::province_of` meets its contract. The table is that of the definition. Assumes nothing.
+use mathlib.Core.Path.{refl}
 use borrow.Author.Tests.{le-leb, lt-leb}
 use borrow.Author.Needs.{needs}
-use Rattle.calendar.specs.Answers.{given, tested}
 use Rattle.zones.specs.Zones.{provinces, PROVINCES, province-call}
-use Rattle.zones.proofs.Zones.{value-and-zone}
+use Rattle.calendar.specs.Answers.{tested}
 use Rattle.zones.proofs.province_of.Statement.{statement}
 use Rattle.zones.proofs.province_of.Tie as tie
 
@@ -20,23 +18,15 @@ returns-2 c = rw (le-leb 1 _ (c .before .if1 .left), lt-leb _ PROVINCES (c .if2 
 sub-i : tie.Need-sub-i
 sub-i c = search needs
 
-mul-value : tie.Need-mul-value
-mul-value c = search needs
+mul-p : tie.Need-mul-p
+mul-p c = search needs
 
-array-read-value : tie.Need-array-read-value
-array-read-value c = search needs
-
-mul-zone : tie.Need-mul-zone
-mul-zone c = search needs
-
-array-read-zone : tie.Need-array-read-zone
-array-read-zone c = search needs
+array-copy-out-p : tie.Need-array-copy-out-p
+array-copy-out-p c = search needs
 
 returns-3 : tie.Need-returns-3
 unfolding province-call tested provinces
-returns-3 c =
-    rw (le-leb 1 _ (c .before .if1 .left), le-leb _ PROVINCES (c .if2 .left))
-    (ap given (value-and-zone (c .before .before .args .number - 1)))
+returns-3 c = rw (le-leb 1 _ (c .before .before .if1 .left), le-leb _ PROVINCES (c .before .if2 .left)) refl
 
 pub province-of-spec : {M : Type 1} → statement M
-province-of-spec = tie.close (tie.spec returns returns-2 sub-i mul-value array-read-value mul-zone array-read-zone returns-3)
+province-of-spec = tie.close (tie.spec returns returns-2 sub-i mul-p array-copy-out-p returns-3)
