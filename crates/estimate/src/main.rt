@@ -1,6 +1,5 @@
 // Runs the calls on supply points and on the calendar with cases from standard input.
 mod input;
-mod output;
 
 use cursor::Cursor;
 use cursor::MOST_LENT;

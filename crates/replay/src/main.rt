@@ -4,7 +4,6 @@ ghost use Prim.Native.Nat.{_<_};
 ghost use lib.ListN.{length};
 
 mod input;
-mod output;
 
 use cursor::Cursor;
 use cursor::MOST_LENT;

@@ -25,15 +25,15 @@ use Rattle.shares.specs.Shared.{shares-of}
 -- ---- the users' shares
 
 module _ (z : ℤ) (cs ls : List ℤ) (users : List ℕ) (n : ℕ) where
-  pub shares-long : length (shares-of z cs ls users n) ≡ n
-  shares-long = lengthZ z (basis-weights cs ls n) (take n users) ∙ length-table _ n
-
   -- what a split leaves in its buffer
   pub shares-are : {ws ks : List ℕ} → ws ≡ basis-weights cs ls n → ks ≡ take n users → (o₀ : List ℤ) {o : List ℤ}
       → o ≡ prorateZ z ws ks ++ drop (length ws) o₀ → o ≡ shares-of z cs ls users n ++ drop n o₀
   shares-are {ws} {ks} e f o₀ q =
       let long : length ws ≡ n = ap length e ∙ length-table _ n in
       q ∙ ap₂ _++_ (ap₂ (prorateZ z) e f) (ap (λ k. drop k o₀) long)
+
+  pub shares-long : length (shares-of z cs ls users n) ≡ n
+  shares-long = lengthZ z (basis-weights cs ls n) (take n users) ∙ length-table _ n
 
   module _ (within : Within LIMIT z) (apart : distinct (take n users) ≡ true) (l : n ≤ length users) where
     pub shares-within : (s : ℕ) → Within LIMIT (atZ (shares-of z cs ls users n) s)

@@ -1,9 +1,9 @@
--- `replay::output::amounts` is safe and ends: `i` rises to the length. Assumes nothing.
+-- `output::amounts` is safe and ends: `i` rises to the length. Assumes nothing.
 use Prim.Native.Nat.{_-_, _≤_}
 use lib.ListN.{length}
 use borrow.Author.Needs.{needs}
-use Rattle.replay.proofs.output.amounts.Statement.{statement}
-use Rattle.replay.proofs.output.amounts.Tie as tie
+use Rattle.output.proofs.amounts.Statement.{statement}
+use Rattle.output.proofs.amounts.Tie as tie
 
 abbrev Inv-loop : tie.InvT-loop
 Inv-loop xs i₀ i = i ≤ length xs

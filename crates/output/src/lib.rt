@@ -1,4 +1,4 @@
-// Lines of text.
+// What the programs print, line by line. The kit's printing functions promise nothing about the bytes, and so neither do these.
 use libc::STDOUT_FILENO;
 
 pub fn text(bytes: &[u8]) {
@@ -6,7 +6,7 @@ pub fn text(bytes: &[u8]) {
 }
 
 // A space and a number.
-fn amount(x: i64) {
+pub fn amount(x: i64) {
     text(b" ");
     if x < 0 {
         text(b"-");
@@ -26,6 +26,10 @@ pub fn amounts(xs: &[i64]) {
 pub fn number(n: u64) {
     text(b" ");
     io::print_decimal(STDOUT_FILENO, n);
+}
+
+pub fn user(n: u16) {
+    number(n as u64);
 }
 
 pub fn end() {
