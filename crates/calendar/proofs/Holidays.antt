@@ -1,6 +1,6 @@
 -- A list of holidays, place by place: as stated or not, and a day among them or not. Assumes nothing.
 use mathlib.Core.Path.{_≡_, refl, sym, ap}
-use mathlib.Core.Bool.{Bool, true, false}
+use mathlib.Core.Bool.{true, false}
 use mathlib.Core.List.{List, [], _∷_}
 use mathlib.Core.Logic.{⊎-elim}
 use Prim.Native.Nat.{ℕ, zero, suc, _+_, _≤_, _<_}
@@ -14,7 +14,7 @@ use borrow.Author.Tests.{le-leb, lt-leb, leb-true, lt-ltb, le-ltb, ltb-true, ne-
 use Rattle.numbers.specs.Sums.{at}
 use Rattle.numbers.specs.Lists.{both, every, has, rising}
 use Rattle.numbers.proofs.Sums.{lt-or-ge}
-use Rattle.numbers.proofs.Lists.{both-fst, both-snd}
+use Rattle.numbers.proofs.Lists.{both-fst, both-snd, both-end, both-none}
 use Rattle.calendar.specs.Days.{LAST-DAY, MOST-HOLIDAYS, is-gas-day, holidays-right, calendar-right}
 
 -- ---- a day among the holidays
@@ -60,14 +60,6 @@ rises-end (x ∷ xs) (suc i) l = rises-end xs i (omega arith)
 
 -- ---- a list of holidays as stated
 
-both-one : (p : Bool) → both p true ≡ p
-both-one true = refl
-both-one false = refl
-
-both-none : (p : Bool) → both p false ≡ false
-both-none true = refl
-both-none false = refl
-
 -- what is no higher than z is no higher than m if z is not
 lower : (x z m : ℕ) → x ≤ z → both (leb x m) (leb z m) ≡ leb z m
 lower x z m l =
@@ -77,7 +69,7 @@ lower x z m l =
 every-last : (m : ℕ) (xs : List ℕ) (k : ℕ) → suc k ≡ length xs → rising xs ≡ true → every (λ x. leb x m) xs ≡ leb (at xs k) m
 unfolding every rising
 every-last m [] k e r = absurd (omega arith)
-every-last m (x ∷ []) zero e r = both-one (leb x m)
+every-last m (x ∷ []) zero e r = both-end (leb x m)
 every-last m (x ∷ []) (suc k) e r = absurd (omega arith)
 every-last m (x ∷ (y ∷ ys)) zero e r = absurd (omega arith)
 every-last m (x ∷ (y ∷ ys)) (suc k) e r =

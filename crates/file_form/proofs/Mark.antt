@@ -1,5 +1,5 @@
 -- A mark compared byte by byte. Assumes nothing.
-use mathlib.Core.Path.{_≡_, refl, _∙_}
+use mathlib.Core.Path.{_≡_, _∙_}
 use mathlib.Core.Bool.{Bool, true, false}
 use mathlib.Core.List.{List, [], _∷_}
 use Prim.Native.Nat.{ℕ, suc, _+_, _<_}
@@ -10,16 +10,13 @@ use lib.Seq.{drop-cons}
 use borrow.Author.Tests.{eq-eqb, ne-eqb}
 use Rattle.numbers.specs.Sums.{at}
 use Rattle.numbers.specs.Lists.{both}
+use Rattle.numbers.proofs.Lists.{both-end}
 use Rattle.file_form.specs.Form.{has-mark}
 
 -- the bytes ms stand in f from place i on
 unfoldable pub stands : List ℕ → ℕ → List ℕ → Bool
 stands f i [] = true
 stands f i (m ∷ ms) = both (eqb (at f i) m) (stands f (suc i) ms)
-
-both-end : (p : Bool) → both p true ≡ p
-both-end true = refl
-both-end false = refl
 
 -- `REP1`
 abbrev pub mark : List ℕ

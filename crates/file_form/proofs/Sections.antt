@@ -11,7 +11,7 @@ use lib.Seq.{drop-cons}
 use borrow.Author.Tests.{leb-true, le-leb, lt-leb}
 use Rattle.numbers.specs.Lists.{both, every}
 use Rattle.numbers.proofs.Sums.{length-table, getD-table}
-use Rattle.numbers.proofs.Lists.{All, all-every, every-all, all-map, all-map₂, both-fst, both-snd, both-true}
+use Rattle.numbers.proofs.Lists.{All, all-every, every-all, all-map, all-map₂, both-fst, both-snd, both-true, both-none}
 use Rattle.file_form.specs.Form.{Section, USER, LINE, pair-count, pairs-end, section-at, sections, end-of, is-whole, sorted, are-apart, none-overlap, sections-right}
 
 -- two tests that hold together are the same
@@ -141,10 +141,6 @@ chained-right f ss = same-truth (chained (length f) (pairs-end f) ss) (sections-
         (both-fst (every (λ s. leb (pairs-end f) (s .offset)) ss) _ e₃) (both-snd (every (λ s. leb (pairs-end f) (s .offset)) ss) _ e₃)
 
 -- ---- the steps of the pass
-
-both-none : (p : Bool) → both p false ≡ false
-both-none true = refl
-both-none false = refl
 
 module _ (f : List ℕ) where
   pub next-section : (i : ℕ) → i < pair-count f → drop i (sections f) ≡ section-at f i ∷ drop (i + 1) (sections f)

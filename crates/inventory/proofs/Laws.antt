@@ -10,7 +10,7 @@ use borrow.Author.Tests.{eq-eqb, ne-eqb, eqb-false, not-true}
 use Rattle.numbers.specs.Sums.{bit, pick, total}
 use Rattle.numbers.specs.Lists.{both, has, distinct, flat}
 use Rattle.numbers.proofs.Sums.{total-append}
-use Rattle.numbers.proofs.Lists.{true≢false, map-append, both-fst, both-snd, either-fst, either-snd, has-at}
+use Rattle.numbers.proofs.Lists.{true≢false, map-append, both-fst, both-snd, either-fst, either-snd, has-at, both-end, both-none}
 use Rattle.point_day.specs.Limits.{KINDS}
 use Rattle.point_day.specs.Day.{User, numbers, empty-user}
 use Rattle.point_day.specs.Calls.{kinds}
@@ -70,18 +70,10 @@ module _ (u : User) (kind : ℕ) where
 
   a-hit : hits (row-of u kind) ≡ bit (some-amount (row-of u kind))
   unfolding hits
-  a-hit = rw (eq-eqb (u .number) (u .number) refl, eq-eqb kind kind refl) (go (some-amount (row-of u kind)))
-    where
-      go : (b : Bool) → bit (both b true) ≡ bit b
-      go true = refl
-      go false = refl
+  a-hit = rw (eq-eqb (u .number) (u .number) refl, eq-eqb kind kind refl) (ap bit (both-end (some-amount (row-of u kind))))
 
   other-kind : (k : ℕ) → eqb k kind ≡ false → hits (row-of u k) ≡ 0
-  other-kind k e = no-hit u k (rw e (go (eqb (u .number) (u .number))))
-    where
-      go : (b : Bool) → both b false ≡ false
-      go true = refl
-      go false = refl
+  other-kind k e = no-hit u k (rw e (both-none (eqb (u .number) (u .number))))
 
   other-user : (v : User) → (v .number ≡ u .number → ⊥) → (k : ℕ) → hits (row-of v k) ≡ 0
   other-user v h k = no-hit v k (rw (ne-eqb (v .number) (u .number) h))

@@ -2,5 +2,6 @@ pub mod Sums
 pub mod Filled
 pub mod Lists
 pub mod Places
+pub mod Totals
 pub mod Amounts
 pub mod Rounding

@@ -33,6 +33,18 @@ both-snd false q e = true≢false (sym e)
 pub both-true : {p q : Bool} → p ≡ true → q ≡ true → both p q ≡ true
 both-true e f = rw (e, f)
 
+pub both-end : (p : Bool) → both p true ≡ p
+both-end true = refl
+both-end false = refl
+
+pub both-none : (p : Bool) → both p false ≡ false
+both-none true = refl
+both-none false = refl
+
+pub either-end : (p : Bool) → either p true ≡ true
+either-end true = refl
+either-end false = refl
+
 pub either-fst : (p q : Bool) → either p q ≡ false → p ≡ false
 either-fst true q e = true≢false e
 either-fst false q e = refl
@@ -120,11 +132,7 @@ pub has-at : (n : ℕ) (xs : List ℕ) (i : ℕ) → i < length xs → at xs i �
 unfolding has
 has-at n [] i l e = absurd (omega arith)
 has-at n (x ∷ xs) zero l e = rw (eq-eqb n x (sym e))
-has-at n (x ∷ xs) (suc i) l e = rw (has-at n xs i (omega arith) e) (go (eqb n x))
-  where
-    go : (p : Bool) → either p true ≡ true
-    go true = refl
-    go false = refl
+has-at n (x ∷ xs) (suc i) l e = rw (has-at n xs i (omega arith) e) (either-end (eqb n x))
 
 pub distinct-is : (xs : List ℕ) → distinct xs ≡ true → Distinct xs
 unfolding distinct

@@ -7,8 +7,8 @@ use native.Mathlib.Omega.{arith}
 use native.Mathlib.Numerals.{add-one}
 use lib.ListN.{length, getD, drop, length-drop, drop-of-length-le}
 use lib.Seq.{getD-drop, drop-cons}
-use Rattle.numbers.specs.Lists.{both, every}
-use Rattle.numbers.proofs.Lists.{both-fst, both-snd, both-true}
+use Rattle.numbers.specs.Lists.{every}
+use Rattle.numbers.proofs.Lists.{both-fst, both-snd, both-true, both-none}
 
 module _ {A : Type 0} (p : A → Bool) (x : A) where
   pub every-at : (xs : List A) → every p xs ≡ true → (i : ℕ) → i < length xs → p (getD xs i x) ≡ true
@@ -26,11 +26,7 @@ module _ {A : Type 0} (p : A → Bool) (x : A) where
   unfolding every
   one-fails [] i l e = absurd (omega arith)
   one-fails (y ∷ xs) zero l e = rw e
-  one-fails (y ∷ xs) (suc i) l e = rw (one-fails xs i (omega arith) e) (go (p y))
-    where
-      go : (b : Bool) → both b false ≡ false
-      go true = refl
-      go false = refl
+  one-fails (y ∷ xs) (suc i) l e = rw (one-fails xs i (omega arith) e) (both-none (p y))
 
   -- ---- from a place on
 

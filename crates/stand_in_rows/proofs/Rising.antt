@@ -1,6 +1,6 @@
 -- User numbers of a row, each above the one before: the test place by place. Assumes nothing.
 use mathlib.Core.Path.{_≡_, refl, sym, ap, _∙_}
-use mathlib.Core.Bool.{Bool, true, false}
+use mathlib.Core.Bool.{true, false}
 use mathlib.Core.List.{List, [], _∷_}
 use mathlib.Core.Logic.{⊎-elim}
 use Prim.Native.Nat.{ℕ, zero, suc, _+_, _≤_, _<_}
@@ -12,16 +12,12 @@ use borrow.Author.Tests.{le-leb, lt-leb, lt-ltb, le-ltb}
 use Rattle.numbers.specs.Sums.{at}
 use Rattle.numbers.specs.Lists.{both, every, rising}
 use Rattle.numbers.proofs.Sums.{lt-or-ge}
-use Rattle.numbers.proofs.Lists.{both-true}
+use Rattle.numbers.proofs.Lists.{both-true, both-none}
 use Rattle.point_day.specs.Limits.{LAST-NUMBER}
 use Rattle.point_day.specs.Day.{is-number}
 use Rattle.numbers.proofs.Places.{one-fails, at-every}
 
 -- ---- rising, place by place
-
-both-false : (b : Bool) → both b false ≡ false
-both-false true = refl
-both-false false = refl
 
 rising-at : (xs : List ℕ) → ((k : ℕ) → suc k < length xs → at xs k < at xs (suc k)) → rising xs ≡ true
 unfolding rising
@@ -34,7 +30,7 @@ unfolding rising
 rising-not [] k l h = absurd (omega arith)
 rising-not (x ∷ []) k l h = absurd (omega arith)
 rising-not (x ∷ (y ∷ xs)) zero l h = rw (le-ltb x y h)
-rising-not (x ∷ (y ∷ xs)) (suc k) l h = rw (rising-not (y ∷ xs) k (omega arith) h) (both-false (ltb x y))
+rising-not (x ∷ (y ∷ xs)) (suc k) l h = rw (rising-not (y ∷ xs) k (omega arith) h) (both-none (ltb x y))
 
 -- ---- the first i numbers are in range and rise; `last` is the one before place i, or 0
 
@@ -66,4 +62,4 @@ module _ (us : List ℕ) where
         go zero l e h =
             let zero-first : is-number (at us 0) ≡ false = rw (lt-leb 1 (at us 0) (omega arith)) in
             sym (ap (λ b. both b (rising us)) (one-fails is-number 0 us 0 l zero-first))
-        go (suc k) l e h = sym (ap (both (every is-number us)) (rising-not us k l (omega arith)) ∙ both-false (every is-number us))
+        go (suc k) l e h = sym (ap (both (every is-number us)) (rising-not us k l (omega arith)) ∙ both-none (every is-number us))

@@ -15,7 +15,7 @@ use Rattle.numbers.proofs.Sums.{cases}
 use Rattle.numbers.proofs.Lists.{both-fst, both-snd}
 use Rattle.coefficients.specs.Temperature.{FEWEST-DAYS, MOST-DAYS, MOST-DEGREES, is-degrees, mean, Sound, MonthMean, winters-mean, winter-right, winters-right}
 use Rattle.coefficients.proofs.Fractions.{cross, bottoms}
-use Rattle.winters.proofs.Lists.{total-most}
+use Rattle.numbers.proofs.Totals.{total-most}
 
 -- the degree days of a month
 pub record Month (ds : List ℕ) : Type 0 where

@@ -1,23 +1,19 @@
 -- `day_types::type_of_day` meets its contract. Each return is a case of the definition. Assumes nothing.
-use mathlib.Core.Path.{_≡_, refl, sym, _∙_}
-use mathlib.Core.Bool.{Bool, true, false}
+use mathlib.Core.Path.{sym, _∙_}
 use Prim.Native.Nat.{_%_}
 use borrow.Author.Tests.{eq-eqb, ne-eqb}
 use borrow.Author.Needs.{needs}
-use Rattle.numbers.specs.Lists.{either, has}
+use Rattle.numbers.specs.Lists.{has}
+use Rattle.numbers.proofs.Lists.{either-end}
 use Rattle.day_types.specs.DayTypes.{WEEK, day-type}
 use Rattle.day_types.proofs.type_of_day.Statement.{statement}
 use Rattle.day_types.proofs.type_of_day.Tie as tie
-
-either-true : (p : Bool) → either p true ≡ true
-either-true true = refl
-either-true false = refl
 
 returns : tie.Need-returns
 unfolding day-type
 returns c =
     let s = c .before .before .args in
-    rw (eq-eqb (s .day % WEEK) 2 (c .if1 .taken), either-true (has (s .day) (s .holidays .now)))
+    rw (eq-eqb (s .day % WEEK) 2 (c .if1 .taken), either-end (has (s .day) (s .holidays .now)))
 
 is-holiday-requires : tie.Need-is-holiday-requires
 is-holiday-requires c κs = search needs

@@ -6,7 +6,7 @@ use lib.ListN.{length, drop}
 use borrow.Author.Needs.{needs}
 use Rattle.numbers.specs.Sums.{total}
 use Rattle.coefficients.specs.Temperature.{MOST-DEGREES}
-use Rattle.winters.proofs.Lists.{total-next, total-end, total-most}
+use Rattle.numbers.proofs.Totals.{total-next, total-end, total-most}
 use Rattle.winters.proofs.total_of.Statement.{statement}
 use Rattle.winters.proofs.total_of.Tie as tie
 
