@@ -2,35 +2,10 @@
 
 use crate::cases::{Call, Numbers};
 
-#[link(name = "c_calls", kind = "static")]
-extern "C" {
-    // A Rattle slice is passed as a pointer and a length.
-    fn seatpomelo_fresh(day: *mut i64, numbers: usize) -> u8;
-    fn seatpomelo_join(day: *mut i64, numbers: usize, user: u16) -> u8;
-    fn seatpomelo_line(
-        day: *mut i64,
-        numbers: usize,
-        user: u16,
-        kind: u8,
-        consumption: u64,
-        coefficient: u64,
-    ) -> u8;
-    fn seatpomelo_measure(day: *mut i64, numbers: usize, emission: u64, downstream: u64) -> u8;
-    fn seatpomelo_allot(day: *mut i64, numbers: usize) -> u8;
-    fn seatpomelo_revise(day: *mut i64, numbers: usize) -> u8;
-    fn seatpomelo_start_final(day: *mut i64, numbers: usize) -> u8;
-    fn seatpomelo_stand_in(
-        day: *mut i64,
-        numbers: usize,
-        counts: *const usize,
-        count_count: usize,
-        users: *const u16,
-        user_count: usize,
-        amounts: *const i64,
-        amount_count: usize,
-    ) -> u8;
-    fn seatpomelo_inventory(day: *mut i64, numbers: usize, out: *mut i64, room: usize) -> u8;
-}
+#[path = "../../../../include/c_calls.rs"]
+mod c_calls;
+
+use c_calls::*;
 
 /// The call on a point-day in plain numbers: 0, or document 01's number of the refusal. Any numbers will do: the call tests them itself.
 /// The rows of an inventory go to `out`.

@@ -1,15 +1,9 @@
 //! The proved library, as a Rust program calls it.
 
-#[link(name = "day_report", kind = "static")]
-extern "C" {
-    // A Rattle slice is passed as a pointer and a length.
-    fn seatpomelo_day_report(
-        file: *const u8,
-        file_len: usize,
-        out: *mut u8,
-        out_len: usize,
-    ) -> usize;
-}
+#[path = "../../../../include/day_report.rs"]
+mod day_report;
+
+use day_report::seatpomelo_day_report;
 
 /// Writes the report on a day file into a buffer of at least 8,192 bytes, and answers how many bytes it has. Any file will do.
 pub fn day_report(file: &[u8], out: &mut [u8]) -> usize {

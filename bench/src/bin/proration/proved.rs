@@ -1,18 +1,9 @@
 //! The proved library, as a Rust program calls it.
 
-#[link(name = "split", kind = "static")]
-extern "C" {
-    // A Rattle slice is passed as a pointer and a length.
-    fn seatpomelo_split(
-        amount: i64,
-        weights: *const u64,
-        weight_count: usize,
-        keys: *const u64,
-        key_count: usize,
-        shares: *mut i64,
-        share_count: usize,
-    ) -> u64;
-}
+#[path = "../../../../include/split.rs"]
+mod split;
+
+use split::seatpomelo_split;
 
 /// The shares of the amount, or document 01's number of the refusal. Any arguments will do: the call tests them itself.
 pub fn split(amount: i64, weights: &[u64], keys: &[u64], shares: &mut [i64]) -> Result<(), u64> {

@@ -1,16 +1,9 @@
 //! The proved library, as a Rust program calls it.
 
-#[link(name = "reading", kind = "static")]
-extern "C" {
-    // A Rattle slice is passed as a pointer and a length.
-    fn seatpomelo_spread(
-        reading: u64,
-        weights: *const i64,
-        weight_count: usize,
-        out: *mut i64,
-        out_count: usize,
-    ) -> u8;
-}
+#[path = "../../../../include/reading.rs"]
+mod reading;
+
+use reading::seatpomelo_spread;
 
 /// A share for each day, or document 01's number of the refusal. Any arguments will do: the call tests them itself.
 pub fn spread(reading: u64, weights: &[i64], out: &mut [i64]) -> Result<(), u8> {

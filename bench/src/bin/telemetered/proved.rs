@@ -2,21 +2,10 @@
 
 use crate::cases::Case;
 
-#[link(name = "flat_telemetered", kind = "static")]
-extern "C" {
-    // A Rattle slice is passed as a pointer and a length.
-    fn seatpomelo_telemetered(
-        day: u32,
-        holidays: *const u32,
-        holiday_count: usize,
-        tags: *const u8,
-        tag_count: usize,
-        values: *const u64,
-        value_count: usize,
-        day_flow: u64,
-        factor: u32,
-    ) -> u64;
-}
+#[path = "../../../../include/flat_telemetered.rs"]
+mod flat_telemetered;
+
+use flat_telemetered::seatpomelo_telemetered;
 
 /// The consumption, or 1,000,000,000 and document 01's number of the refusal. Any arguments will do: the call tests them itself.
 pub fn estimate(case: &Case) -> u64 {

@@ -1,15 +1,9 @@
 //! The proved library, as a Rust program calls it.
 
-#[link(name = "day_report", kind = "static")]
-extern "C" {
-    // A Rattle slice is passed as a pointer and a length.
-    fn seatpomelo_day_report(
-        file: *const u8,
-        file_len: usize,
-        out: *mut u8,
-        out_len: usize,
-    ) -> usize;
-}
+#[path = "../../../../../include/day_report.rs"]
+mod day_report;
+
+use day_report::seatpomelo_day_report;
 
 /// The least buffer that a report is written to.
 pub const ROOM: usize = 8_192;
