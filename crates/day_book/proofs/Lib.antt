@@ -1,4 +1,12 @@
 pub mod Keeps
+pub mod Parties
+pub mod Figures
+pub mod Agreeing
 pub mod Lines
+pub mod Entering
+pub mod Sharing
+pub mod Books
 pub mod Given
+pub mod Placed
+pub mod Left
 pub mod Theorem

@@ -1,110 +1,147 @@
 -- Demand 3 holds of every list of calls. Assumes nothing.
-use mathlib.Core.Path.{_≡_, refl, sym, ap, ap₂, _∙_, subst, subst⁻¹}
+use mathlib.Core.Path.{_≡_, refl, sym, ap, ap₂, _∙_, subst⁻¹}
 use mathlib.Core.Bool.{Bool, true, false}
-use mathlib.Core.List.{List, [], _∷_, map, List·Memᴰ, List·Memᴰ·not-nil, List·Memᴰ·cases-cons}
-use mathlib.Core.Logic.{⊎-elim}
-use Prim.Native.Nat.{_≤_}
+use mathlib.Core.List.{List, _∷_, map}
+use Prim.Native.Nat.{ℕ, _≤_}
 use lib.IntN.{natAbs, _-ℤ_}
 use Rattle.numbers.specs.Sums.{pick}
-use Rattle.numbers.proofs.Lists.{All, never, both-fst, both-snd}
+use Rattle.numbers.proofs.Lists.{never, both-fst, both-snd}
 use Rattle.point_day.specs.Limits.{TOLERANCE}
-use Rattle.point_day.specs.Day.{User, Day, fresh, numbers, net, all-whole, no-more}
-use Rattle.point_day.specs.Calls as calls
-use Rattle.point_day.specs.Calls.{Move, Verdict, refuse, accept, verdict, keep, assign, revise-by}
-use Rattle.point_day.specs.Struct.{read, laid, Outcome, by, called}
+use Rattle.point_day.specs.Day.{User, Day, numbers, net, all-whole}
+use Rattle.point_day.specs.Calls.{Answer, Verdict, refuse, accept, within-tolerance, revision-assigned}
+use Rattle.point_day.specs.Struct.{read, laid, Outcome, called}
 use Rattle.point_day.specs.declared.PointDay.{PointDay}
-use Rattle.point_day.proofs.Good.{Good, allotted, good-sound}
+use Rattle.point_day.proofs.Good.{allotted, good-sound}
 use Rattle.point_day.proofs.Bounds.{revise-close}
-use Rattle.day_book.specs.Book.{Call, join, line, lent-line, measure, allot, stand-in, revise, start-final, Calls, none, _then_, move, run, answer-after, answers, verdict-of, accepts, Book, book-R, entry, entered, book, verdicts}
+use Rattle.day_book.specs.Run.{Call, join, line, lent-line, measure, allot, stand-in, revise, start-final, Calls, none, _then_, move}
+use Rattle.day_book.specs.Run.{run, answer-after, answers, Chain, begin, goes-on, verdict-of, accepts}
+use Rattle.day_book.specs.Book.{Book, fresh-book, R, joined, with-line, measured, stood-in, tolerated, assigned, restarted}
+use Rattle.day_book.specs.Book.{after, book-verdict, by-verdict, book, verdicts}
+use Rattle.day_book.specs.Book as own
 use Rattle.day_book.specs.Shares.{CallShared}
-use Rattle.day_book.specs.Claim.{Line, more-lines, stage-lines, AllShared, is-revise, ends-revised, Demand3}
-use Rattle.day_book.proofs.Keeps.{agree, called-is, book-good, run-is, read-is}
-use Rattle.day_book.proofs.Lines.{OfLines, Lined, entry-lined}
+use Rattle.day_book.specs.Arrays.{Holds}
+use Rattle.day_book.specs.Leaves.{LeavesBy}
+use Rattle.day_book.specs.Claim.{user-of, day-of, values, answer-by, book-answers, lines-after, stage-lines, AllShared, AllLeft}
+use Rattle.day_book.specs.Claim.{is-revise, ends-revised, Demand3, Returned}
+use Rattle.day_book.proofs.Figures.{numbers-is, of-each}
+use Rattle.day_book.proofs.Agreeing.{Kept}
+use Rattle.day_book.proofs.Books.{agrees, passed, book-kept, run-is, answer-is, read-is}
 use Rattle.day_book.proofs.Given.{shared-by}
+use Rattle.day_book.proofs.Placed.{holds}
+use Rattle.day_book.proofs.Left.{left-by}
 
--- ---- the answer of a call, by the book's entry
-
-answer-is : (cs : Calls) (c : Call) → let b = book cs in answer-after cs c ≡ by (verdict (entry c b .tests)) (entry c b) (laid (b .day)) .answer
-answer-is cs c =
-    ap (λ d. called (move c) d .answer) (run-is cs) ∙ ap (λ (o : Outcome). o .answer) (called-is (book cs) (book-good cs) c)
+-- ---- the same refusals and answers
 
 -- an accepted call's answer is no refusal
-answer-accepts : (c : Call) (b : Book) → verdict-of (entry c b .answer) ≡ accept
-unfolding calls.join calls.line calls.measure calls.allot calls.stand-in calls.start-final revise-by
-answer-accepts (join n) b = refl
-answer-accepts (line n kind c k) b = refl
-answer-accepts (lent-line n kind c k) b = refl
-answer-accepts (measure emission downstream) b = refl
-answer-accepts allot b = refl
-answer-accepts (stand-in rows) b = refl
-answer-accepts revise b = go (no-more TOLERANCE (book-R b))
+values-accept : (c : Call) (b : Book) → verdict-of (values c b) ≡ accept
+values-accept (join n) b = refl
+values-accept (line n kind c k) b = refl
+values-accept (lent-line n kind c k) b = refl
+values-accept (measure emission downstream) b = refl
+values-accept allot b = refl
+values-accept (stand-in rows) b = refl
+values-accept revise b = go (tolerated b)
   where
-    go : (p : Bool) → verdict-of (pick p (keep (book-R b) (b .day)) (assign (book-R b) (b .day)) .answer) ≡ accept
+    go : (p : Bool) → verdict-of (pick p (within-tolerance (R b)) (revision-assigned (R b))) ≡ accept
     go true = refl
     go false = refl
-answer-accepts start-final b = refl
+values-accept start-final b = refl
 
-answer-by : (c : Call) (b : Book) (v : Verdict) → verdict-of (by v (entry c b) (laid (b .day)) .answer) ≡ v
-answer-by c b (refuse n) = refl
-answer-by c b accept = answer-accepts c b
+verdict-by : (v : Verdict) (c : Call) (b : Book) → verdict-of (answer-by v c b) ≡ v
+verdict-by (refuse n) c b = refl
+verdict-by accept c b = values-accept c b
 
--- ---- the same refusals
+verdict-is : (cs : Calls) (c : Call) → verdict-of (answer-after cs c) ≡ book-verdict c (book cs)
+verdict-is cs c = ap verdict-of (answer-is cs c) ∙ verdict-by (book-verdict c (book cs)) c (book cs)
 
-verdict-is : (cs : Calls) (c : Call) → verdict-of (answer-after cs c) ≡ verdict (entry c (book cs) .tests)
-verdict-is cs c = ap verdict-of (answer-is cs c) ∙ answer-by c (book cs) (verdict (entry c (book cs) .tests))
-
-refusals : (cs : Calls) → map verdict-of (answers cs) ≡ verdicts cs
+refusals-same : (cs : Calls) → map verdict-of (answers cs) ≡ verdicts cs
 unfolding answers verdicts
-refusals none = refl
-refusals (cs then c) = ap₂ _∷_ (verdict-is cs c) (refusals cs)
+refusals-same none = refl
+refusals-same (cs then c) = ap₂ _∷_ (verdict-is cs c) (refusals-same cs)
 
--- ---- the same stage
+answers-same : (cs : Calls) → answers cs ≡ book-answers cs
+unfolding answers book-answers
+answers-same none = refl
+answers-same (cs then c) = ap₂ _∷_ (answer-is cs c) (answers-same cs)
 
-stages : (cs : Calls) → (run cs .stage ≡ book cs .day .stage) × (run cs .allotted ≡ book cs .day .allotted)
-unfolding laid
-stages cs = (ap (λ (d : PointDay). d .stage) (run-is cs), ap (λ (d : PointDay). d .allotted) (run-is cs))
+-- ---- the same figures
 
-measurements : (cs : Calls) → run cs .measurement ≡ book cs .day .measurement
-unfolding laid
-measurements cs = ap (λ (d : PointDay). d .measurement) (run-is cs)
+stages-same : (cs : Calls) → (run cs .stage ≡ book cs .stage) × (run cs .allotted ≡ book cs .allotted)
+unfolding laid day-of
+stages-same cs = (ap (λ (d : PointDay). d .stage) (run-is cs), ap (λ (d : PointDay). d .allotted) (run-is cs))
+
+measurements-same : (cs : Calls) → run cs .measurement ≡ book cs .measurement
+unfolding laid day-of
+measurements-same cs = ap (λ (d : PointDay). d .measurement) (run-is cs)
+
+-- what is the book's of each user
+figures-same : (cs : Calls) {A : Type 0} (f : User → A) (g : ℕ → A) → ((n : ℕ) → f (user-of (book cs) n) ≡ g n)
+    → map f (read (run cs) .users) ≡ map g (book cs .users)
+figures-same cs f g e = ap (λ (d : Day). map f (d .users)) (read-is cs) ∙ of-each (book cs) f g e
+
+-- ---- the lines of the stage
+
+lines-of : (c : Call) (b : Book) → after c b .lines ≡ lines-after c (b .lines)
+unfolding joined with-line measured own.allotted stood-in assigned restarted
+lines-of (join n) b = refl
+lines-of (line n kind c k) b = refl
+lines-of (lent-line n kind c k) b = refl
+lines-of (measure emission downstream) b = refl
+lines-of allot b = refl
+lines-of (stand-in rows) b = refl
+lines-of revise b = go (tolerated b)
+  where
+    go : (p : Bool) → pick p b (assigned b) .lines ≡ b .lines
+    go true = refl
+    go false = refl
+lines-of start-final b = refl
+
+lines-by : (v : Verdict) (c : Call) (b : Book) → by-verdict v c b .lines ≡ pick (accepts v) (lines-after c (b .lines)) (b .lines)
+lines-by (refuse n) c b = refl
+lines-by accept c b = lines-of c b
+
+lines-same : (cs : Calls) → book cs .lines ≡ stage-lines cs
+unfolding book stage-lines fresh-book
+lines-same none = refl
+lines-same (cs then c) =
+    lines-by (book-verdict c (book cs)) c (book cs)
+    ∙ ap₂ (λ v ls. pick (accepts v) (lines-after c ls) ls) (sym (verdict-is cs c)) (lines-same cs)
 
 -- ---- the whole amounts add up to the settled net
 
 pub whole-amounts-add-up : (cs : Calls) → run cs .allotted ≡ true → all-whole (read (run cs) .users) ≡ book cs .settled
 whole-amounts-add-up cs e =
     ap (λ (d : Day). all-whole (d .users)) (read-is cs)
-    ∙ allotted (book cs .day) (book cs .settled) (book-good cs) (sym (stages cs .1) ∙ e) .adds-up
-
--- ---- the lines of the stage
-
-module _ (b : Book) (c : Call) (ls : List Line) (h : Lined (b .day .users) ls) where
-  lined-by : (v : Verdict) → verdict (entry c b .tests) ≡ v → Lined (entered v c b .day .users) (more-lines c (by v (entry c b) (laid (b .day)) .answer) ls)
-  lined-by (refuse n) e = h
-  lined-by accept e = rw (answer-accepts c b) (entry-lined c b ls h e)
-
-lined : (cs : Calls) → Lined (book cs .day .users) (stage-lines cs)
-unfolding book stage-lines fresh
-lined none = record { cells = tt; named = tt }
-lined (cs then c) = rw (answer-is cs c) (lined-by (book cs) c (stage-lines cs) (lined cs) (verdict (entry c (book cs) .tests)) refl)
-
-member : (P : User → Type 0) (u : User) (us : List User) → All P us → List·Memᴰ u us → P u
-member P u [] h m = absurd (List·Memᴰ·not-nil m)
-member P u (v ∷ us) h m = ⊎-elim (λ e. subst⁻¹ P e (h .0)) (λ n. member P u us (h .1) n) (List·Memᴰ·cases-cons m)
+    ∙ allotted (day-of (book cs)) (book cs .settled) (book-kept cs .good) (unfold day-of in sym (stages-same cs .1) ∙ e) .adds-up
 
 -- ---- the shares
 
-call-shared : (cs : Calls) (c : Call) → CallShared c (answer-after cs c) (read (run cs)) (read (run (cs then c)))
+call-shared : (cs : Calls) (c : Call) → CallShared c (answer-after cs c) (book cs) (read (run (cs then c)))
 unfolding book
 call-shared cs c =
-    subst⁻¹ (λ a. CallShared c a (read (run cs)) (read (run (cs then c)))) (answer-is cs c)
-    (subst⁻¹ (λ d. CallShared c (by (verdict (entry c (book cs) .tests)) (entry c (book cs)) (laid (book cs .day)) .answer) d (read (run (cs then c)))) (read-is cs)
-    (subst⁻¹ (λ d. CallShared c (by (verdict (entry c (book cs) .tests)) (entry c (book cs)) (laid (book cs .day)) .answer) (book cs .day) d) (read-is (cs then c))
-    (shared-by (book cs) (book-good cs) c (verdict (entry c (book cs) .tests)) refl)))
+    let b = book cs in
+    subst⁻¹ (λ a. CallShared c a b (read (run (cs then c)))) (answer-is cs c)
+    (subst⁻¹ (λ d. CallShared c (answer-by (book-verdict c b) c b) b d) (read-is (cs then c))
+    (shared-by b (book-kept cs) c (book-verdict c b) refl))
 
 all-shared : (cs : Calls) → AllShared cs
 unfolding AllShared
 all-shared none = tt
 all-shared (cs then c) = (all-shared cs, call-shared cs c)
+
+-- ---- what each call left
+
+all-left : (cs : Calls) → AllLeft cs
+unfolding AllLeft book
+all-left none = tt
+all-left (cs then c) = (all-left cs, call-left)
+  where
+    call-left : LeavesBy (answer-after cs c) c (read (run cs)) (read (run (cs then c)))
+    call-left =
+        subst⁻¹ (λ a. LeavesBy a c (read (run cs)) (read (run (cs then c)))) (answer-is cs c)
+        (subst⁻¹ (λ d. LeavesBy (answer-by (book-verdict c (book cs)) c (book cs)) c d (read (run (cs then c)))) (read-is cs)
+        (subst⁻¹ (λ d. LeavesBy (answer-by (book-verdict c (book cs)) c (book cs)) c (day-of (book cs)) d) (read-is (cs then c))
+        (left-by c (book-verdict c (book cs)) (book cs))))
 
 -- ---- after an accepted revise
 
@@ -112,43 +149,62 @@ accepts-is : (v : Verdict) → accepts v ≡ true → v ≡ accept
 accepts-is (refuse n) e = never e
 accepts-is accept e = refl
 
-close-revise : (b : Book) → Good (b .day) (b .settled) → verdict (entry revise b .tests) ≡ accept
-    → natAbs (net (entry revise b .after) -ℤ all-whole (entry revise b .after .users)) ≤ TOLERANCE
-close-revise b g v =
-    subst (λ (m : Move). natAbs (net (m .after) -ℤ all-whole (m .after .users)) ≤ TOLERANCE) (agree b g revise .rest v)
-    (revise-close (b .day) (good-sound (b .day) (b .settled) g) (λ e. allotted (b .day) (b .settled) g e .some-user) TOLERANCE (agree b g revise .tests ∙ v))
+abbrev Close : Day → Type 0
+Close d = natAbs (net d -ℤ all-whole (d .users)) ≤ TOLERANCE
 
-closes : (cs : Calls) → ends-revised cs ≡ true → natAbs (net (read (run cs)) -ℤ all-whole (read (run cs) .users)) ≤ TOLERANCE
+close-revise : (b : Book) → Kept b → book-verdict revise b ≡ accept → Close (day-of (after revise b))
+close-revise b h v =
+    let w = passed b h revise v in
+    let g = h .good in
+    subst⁻¹ Close (agrees revise b h .days w)
+    (revise-close (day-of b) (good-sound (day-of b) (b .settled) g) (λ e. allotted (day-of b) (b .settled) g e .some-user) TOLERANCE w)
+
+closes : (cs : Calls) → ends-revised cs ≡ true → Close (read (run cs))
 unfolding ends-revised
 closes none e = never e
 closes (cs then c) e =
-    rw (read-is (cs then c)) (go c (both-fst (is-revise c) _ e) (sym (verdict-is cs c) ∙ accepts-is _ (both-snd (is-revise c) _ e)))
+    subst⁻¹ Close (read-is (cs then c))
+    (go c (both-fst (is-revise c) _ e) (sym (verdict-is cs c) ∙ accepts-is _ (both-snd (is-revise c) _ e)))
   where
-    go : (c : Call) → is-revise c ≡ true → verdict (entry c (book cs) .tests) ≡ accept → natAbs (net (book (cs then c) .day) -ℤ all-whole (book (cs then c) .day .users)) ≤ TOLERANCE
+    go : (c : Call) → is-revise c ≡ true → book-verdict c (book cs) ≡ accept → Close (day-of (book (cs then c)))
     go (join n) r v = never r
     go (line n kind c k) r v = never r
     go (lent-line n kind c k) r v = never r
     go (measure emission downstream) r v = never r
     go allot r v = never r
     go (stand-in rows) r v = never r
-    go revise r v = unfold book in rw v (close-revise (book cs) (book-good cs) v)
+    go revise r v = unfold book in subst⁻¹ (λ v. Close (day-of (by-verdict v revise (book cs)))) v (close-revise (book cs) (book-kept cs) v)
     go start-final r v = never r
 
 pub demand-3 : (cs : Calls) → Demand3 cs
 demand-3 cs = record {
-  same-refusals = refusals cs;
-  same-stage = stages cs;
-  same-users = ap (λ (d : Day). numbers (d .users)) (read-is cs);
-  same-measurement = measurements cs;
-  same-consumption = ap (λ (d : Day). map (λ (u : User). u .consumption) (d .users)) (read-is cs);
-  same-losses = ap (λ (d : Day). map (λ (u : User). u .losses) (d .users)) (read-is cs);
-  same-balance = ap (λ (d : Day). map (λ (u : User). u .balance) (d .users)) (read-is cs);
-  same-revision = ap (λ (d : Day). map (λ (u : User). u .revision) (d .users)) (read-is cs);
+  same-refusals = refusals-same cs;
+  same-answers = answers-same cs;
+  same-stage = stages-same cs;
+  same-users = ap (λ (d : Day). numbers (d .users)) (read-is cs) ∙ numbers-is (book cs);
+  same-measurement = measurements-same cs;
+  same-consumption = figures-same cs (λ (u : User). u .consumption) _ (λ n. refl);
+  same-losses = figures-same cs (λ (u : User). u .losses) _ (λ n. refl);
+  same-balance = figures-same cs (λ (u : User). u .balance) _ (λ n. refl);
+  same-revision = figures-same cs (λ (u : User). u .revision) _ (λ n. refl);
   same-day = run-is cs;
-  of-lines = λ u m.
-      let h = member (OfLines (stage-lines cs)) u (read (run cs) .users) (rw (read-is cs) (lined cs .cells)) m in
-      (h .consumption, h .losses);
+  in-places = subst⁻¹ (λ d. Holds d (book cs)) (run-is cs) (holds (book cs) (book-kept cs));
+  of-lines = lines-same cs;
   adds-up = whole-amounts-add-up cs;
   shares = all-shared cs;
+  leaves = all-left cs;
   close = closes cs;
 }
+
+-- ---- what calls returned
+
+chain-is : {cs : Calls} {ss : List Answer} {d : PointDay} → Chain cs ss d → (ss ≡ answers cs) × (d ≡ run cs)
+unfolding run answers
+chain-is begin = (refl, refl)
+chain-is (goes-on r c e) =
+    let h = chain-is r in
+    let o = e ∙ ap (called (move c)) (h .1) in
+    (ap₂ _∷_ (ap (λ (o : Outcome). o .answer) o) (h .0), ap (λ (o : Outcome). o .day) o)
+
+pub demand-3-of-results : {cs : Calls} {ss : List Answer} {d : PointDay} → Chain cs ss d → Returned cs ss d
+demand-3-of-results {cs} r = record { the-answers = chain-is r .0; the-day = chain-is r .1; demand = demand-3 cs }

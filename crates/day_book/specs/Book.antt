@@ -1,117 +1,430 @@
--- Lists of calls on a point-day, and document 01's day book. Assumes nothing.
+-- Document 01's day book: "Fed the calls with their arguments and nothing of their answers, it starts fresh, refuses by the table below,
+-- and otherwise does on its own numbers what the calls above say". A ledger, written from the paper apart from the point-day's calls:
+-- users by their numbers, lines as they came, refusals row by row. Assumes nothing.
 use mathlib.Core.Bool.{Bool, true, false, not}
-use mathlib.Core.List.{List, [], _∷_}
-use Prim.Native.Nat.{ℕ}
-use lib.IntN.{ℤ, pos, _-ℤ_}
-use Rattle.numbers.specs.Sums.{pick}
-use Rattle.point_day.specs.Limits.{TOLERANCE}
-use Rattle.point_day.specs.Day.{Day, fresh, net, no-more}
-use Rattle.point_day.specs.Calls as calls
-use Rattle.point_day.specs.Calls.{Answer, refused, done, losses-added, rows-looked-at, within-tolerance, revision-assigned, Move, Verdict, refuse, accept, verdict, Pair}
-use Rattle.point_day.specs.Struct.{laid, called}
-use Rattle.point_day.specs.declared.PointDay.{PointDay}
+use mathlib.Core.List.{List, [], _∷_, _++_, map}
+use Prim.Native.Nat.{ℕ, suc, _+_, _*_}
+use lib.Dec.{leb, ltb, eqb}
+use lib.IntN.{ℤ, pos, negℤ, natAbs, _+ℤ_, _-ℤ_}
+use lib.ListN.{length, getD}
+use lib.Signed.{leZ}
+use Rattle.numbers.specs.Sums.{pick, total, totalZ}
+use Rattle.numbers.specs.Lists.{both, either, every, has, rising}
+use Rattle.numbers.specs.Nearest.{nearest}
+use Rattle.numbers.specs.Refusals.{Test, _when_, Verdict, refuse, accept, verdict}
+use Rattle.proration.specs.Proration.{prorateZ}
+use Rattle.point_day.specs.Limits.{USERS, LAST-NUMBER, KINDS, LIMIT, AMOUNT, COEFFICIENT, PARTS, ROWS, TOLERANCE}
+use Rattle.point_day.specs.Calls.{Pair}
+use Rattle.point_day.specs.declared.Stage.{Stage}
+use Rattle.point_day.specs.declared.Stage.the-variants.{Provisional, FinalProvisional, FinalDefinitive}
+use Rattle.point_day.specs.declared.Measurement.{Measurement}
+use Rattle.point_day.specs.declared.Measurement.the-variants.{Unmeasured, Measured}
+use Rattle.day_book.specs.Run.{Call, join, line, lent-line, measure, allot, stand-in, revise, start-final, Calls, none, _then_}
 
--- a call with its arguments; line in both forms
-pub data Call : Type 0 where
-  join : ℕ → Call
-  line lent-line : ℕ → ℕ → ℕ → ℕ → Call
-  measure : ℕ → ℕ → Call
-  allot : Call
-  stand-in : List (List Pair) → Call
-  revise : Call
-  start-final : Call
+-- ---- what the book holds
 
--- a list of calls, in their order
-pub data Calls : Type 0 where
-  none : Calls
-  _then_ : Calls → Call → Calls
-
-infixl 5 _then_
--- ---- the point-day
-
--- what the contracts of the calls cite
-abbrev pub move : Call → Day → Move
-move (join n) = calls.join n
-move (line n kind c k) = calls.line n kind c k
-move (lent-line n kind c k) = calls.line n kind c k
-move (measure emission downstream) = calls.measure emission downstream
-move allot = calls.allot
-move (stand-in rows) = calls.stand-in TOLERANCE rows
-move revise = calls.revise TOLERANCE
-move start-final = calls.start-final
-
--- the point-day after a list of calls from fresh: each call gets what the one before returned or left
-unfoldable pub run : Calls → PointDay
-run none = laid fresh
-run (cs then c) = called (move c) (run cs) .day
-
--- the answer of a call after a list
-abbrev pub answer-after : Calls → Call → Answer
-answer-after cs c = called (move c) (run cs) .answer
-
--- the answers of a list, the last one first
-unfoldable pub answers : Calls → List Answer
-answers none = []
-answers (cs then c) = answer-after cs c ∷ answers cs
-
--- the refusal that an answer tells of, or none
-abbrev pub verdict-of : Answer → Verdict
-verdict-of (refused n) = refuse n
-verdict-of done = accept
-verdict-of (losses-added l) = accept
-verdict-of (rows-looked-at k) = accept
-verdict-of (within-tolerance R) = accept
-verdict-of (revision-assigned R) = accept
-
-abbrev pub accepts : Verdict → Bool
-accepts (refuse n) = false
-accepts accept = true
-
--- ---- the day book: "Fed the calls with their arguments and nothing of their answers, it starts fresh, refuses by the table
--- below, and otherwise does on its own numbers what the calls above say"
+-- a line as it was accepted
+pub record Line : Type 0 where
+  pub user : ℕ
+  pub kind : ℕ
+  pub consumption : ℕ
+  pub coefficient : ℕ
 
 pub record Book : Type 0 where
-  pub day : Day
+  pub stage : Stage
+  pub allotted : Bool
+  pub measurement : Measurement
+  -- users in the order in which they joined
+  pub users : List ℕ
+  -- the lines accepted in this stage, the latest first
+  pub lines : List Line
+  -- by user and kind, and by user
+  pub balance : ℕ → ℕ → ℤ
+  pub revision : ℕ → ℤ
+  -- the settled net
   pub settled : ℤ
 
+-- a book of these, in that order
+abbrev pub page : Stage → Bool → Measurement → List ℕ → List Line → (ℕ → ℕ → ℤ) → (ℕ → ℤ) → ℤ → Book
+page s a m us ls bal rev net = record {
+  stage = s;
+  allotted = a;
+  measurement = m;
+  users = us;
+  lines = ls;
+  balance = bal;
+  revision = rev;
+  settled = net;
+}
+
+-- "Fresh is provisional, entering, empty, unmeasured"
+unfoldable pub fresh-book : Book
+fresh-book = page Provisional false Unmeasured [] [] (λ n kind. pos 0) (λ n. pos 0) (pos 0)
+
+-- ---- its figures
+
+-- "five kinds", and the estimated ones among them
+abbrev pub kinds : List ℕ
+kinds = 1 ∷ 2 ∷ 3 ∷ 4 ∷ 5 ∷ []
+
+abbrev pub kinds-2-to-5 : List ℕ
+kinds-2-to-5 = 2 ∷ 3 ∷ 4 ∷ 5 ∷ []
+
+abbrev pub unmeasured : Measurement → Bool
+unmeasured Unmeasured = true
+unmeasured (Measured emission downstream) = false
+
+-- "Net is the difference"; 0 if unmeasured, which no call then uses
+abbrev pub net-of : Measurement → ℤ
+net-of Unmeasured = pos 0
+net-of (Measured emission downstream) = pos emission -ℤ pos downstream
+
+abbrev pub net : Book → ℤ
+net b = net-of (b .measurement)
+
+-- "as losses the nearest of consumption × coefficient / 100,000"
+abbrev pub losses-of : Line → ℕ
+losses-of l = nearest (l .consumption * l .coefficient) PARTS
+
+-- consumption and losses "are those of the lines accepted in that stage": f of the lines of that user and kind, added up
+unfoldable pub added-up : (Line → ℕ) → ℕ → ℕ → List Line → ℕ
+added-up f n kind ls = total (map (λ l. pick (both (eqb (l .user) n) (eqb (l .kind) kind)) (f l) 0) ls)
+
+abbrev pub consumption : Book → ℕ → ℕ → ℕ
+consumption b n kind = added-up (λ l. l .consumption) n kind (b .lines)
+
+abbrev pub losses : Book → ℕ → ℕ → ℕ
+losses b n kind = added-up losses-of n kind (b .lines)
+
+-- consumption plus losses: of a user's kind, of some of its kinds, of the point-day
+abbrev pub offtake : Book → ℕ → ℕ → ℕ
+offtake b n kind = consumption b n kind + losses b n kind
+
+abbrev pub offtake-of : List ℕ → Book → ℕ → ℕ
+offtake-of ks b n = total (map (offtake b n) ks)
+
+abbrev pub point-sum : Book → ℕ
+point-sum b = total (map (offtake-of kinds b) (b .users))
+
+-- "Whole amount: a user's consumption, losses and balance over all kinds, plus revision"
+unfoldable pub whole : Book → ℕ → ℤ
+whole b n = (pos (offtake-of kinds b n) +ℤ totalZ (map (b .balance n) kinds)) +ℤ b .revision n
+
 -- "R in it is net − settled net"
-abbrev pub book-R : Book → ℤ
-book-R b = net (b .day) -ℤ b .settled
+abbrev pub R : Book → ℤ
+R b = net b -ℤ b .settled
 
-abbrev pub entry : Call → Book → Move
-entry (join n) b = calls.join n (b .day)
-entry (line n kind c k) b = calls.line n kind c k (b .day)
-entry (lent-line n kind c k) b = calls.line n kind c k (b .day)
-entry (measure emission downstream) b = calls.measure emission downstream (b .day)
-entry allot b = calls.allot (b .day)
-entry (stand-in rows) b = calls.stand-in TOLERANCE rows (b .day)
-entry revise b = calls.revise-by TOLERANCE (book-R b) (b .day)
-entry start-final b = calls.start-final (b .day)
+-- ---- splits: over parties that are numbers, users' or kinds', by a weight for each
 
--- "Allot, stand-in and a revise outside tolerance (an assigned revision) also make its net the settled net"
-abbrev pub settles : Call → Book → Bool
-settles (join n) b = false
-settles (line n kind c k) b = false
-settles (lent-line n kind c k) b = false
-settles (measure emission downstream) b = false
-settles allot b = true
-settles (stand-in rows) b = true
-settles revise b = not (no-more TOLERANCE (book-R b))
-settles start-final b = false
+-- what stands beside p: the amount of the list at the place that p has among the parties
+unfoldable pub beside : List ℕ → List ℤ → ℕ → ℤ
+beside [] zs p = pos 0
+beside (q ∷ qs) [] p = pos 0
+beside (q ∷ qs) (z ∷ zs) p = pick (eqb q p) z (beside qs zs p)
+
+-- what p gets of A
+unfoldable pub part : ℤ → (ℕ → ℕ) → List ℕ → ℕ → ℤ
+part A weight parties p = beside parties (prorateZ A (map weight parties) parties) p
+
+-- ---- Join: "adds a user"
+
+unfoldable pub joined : ℕ → Book → Book
+joined n b = page (b .stage) (b .allotted) (b .measurement) (b .users ++ (n ∷ [])) (b .lines) (b .balance) (b .revision) (b .settled)
+
+-- ---- Line: "Adds the consumption, and as losses .."
+
+abbrev pub a-line : ℕ → ℕ → ℕ → ℕ → Line
+a-line n kind c k = record { user = n; kind = kind; consumption = c; coefficient = k }
+
+unfoldable pub with-line : Line → Book → Book
+with-line l b = page (b .stage) (b .allotted) (b .measurement) (b .users) (l ∷ b .lines) (b .balance) (b .revision) (b .settled)
+
+-- ---- Measure: "the latest counts"
+
+unfoldable pub measured : ℕ → ℕ → Book → Book
+measured emission downstream b =
+    page (b .stage) (b .allotted) (Measured emission downstream) (b .users) (b .lines) (b .balance) (b .revision) (b .settled)
+
+-- ---- Allot
+
+-- "balance = net − consumption − losses, over all users"
+abbrev pub to-balance : Book → ℤ
+to-balance b = net b -ℤ pos (point-sum b)
+
+-- "by consumption plus losses of kinds 2 to 5; if these are zero for all users, of all kinds": the kinds that weigh
+unfoldable pub weighing : Book → List ℕ
+weighing b = pick (eqb (total (map (offtake-of kinds-2-to-5 b) (b .users))) 0) kinds kinds-2-to-5
+
+abbrev pub user-weight : Book → ℕ → ℕ
+user-weight b n = offtake-of (weighing b) b n
+
+-- "with the same weights; if those are all zero, kind 1's proportion is the whole"
+unfoldable pub kind-weight : Book → ℕ → ℕ → ℕ
+kind-weight b n kind = pick (eqb (user-weight b n) 0) (pick (eqb kind 1) 1 0) (pick (has kind (weighing b)) (offtake b n kind) 0)
+
+-- "It is prorated over users .. Then each user's share is prorated over that user's kinds"
+abbrev pub user-share : Book → ℕ → ℤ
+user-share b n = part (to-balance b) (user-weight b) (b .users) n
+
+abbrev pub kind-share : Book → ℕ → ℕ → ℤ
+kind-share b n kind = part (user-share b n) (kind-weight b n) kinds kind
+
+-- "The stage is then allotted"; "Allot, stand-in and a revise outside tolerance .. also make its net the settled net"
+unfoldable pub allotted : Book → Book
+allotted b = page (b .stage) true (b .measurement) (b .users) (b .lines) (kind-share b) (b .revision) (net b)
+
+-- ---- Stand-in
+
+abbrev pub users-in : List Pair → List ℕ
+users-in ps = map (λ (p : Pair). p .user) ps
+
+abbrev pub amounts-in : List Pair → List ℤ
+amounts-in ps = map (λ (p : Pair). p .amount) ps
+
+abbrev pub is-empty : List Pair → Bool
+is-empty ps = eqb (length ps) 0
+
+-- how many rows are empty before the nearest row with any pair
+unfoldable pub empty-before : List (List Pair) → ℕ
+empty-before [] = 0
+empty-before (ps ∷ rows) = pick (is-empty ps) (suc (empty-before rows)) 0
+
+-- "The nearest row with any pair is used", and it is the last of "the number of rows looked at"
+unfoldable pub used-row : List (List Pair) → List Pair
+used-row rows = getD rows (empty-before rows) []
+
+unfoldable pub rows-looked : List (List Pair) → ℕ
+rows-looked rows = suc (empty-before rows)
+
+-- "by those amounts": a user's, none of them negative (row 11)
+abbrev pub row-weight : List Pair → ℕ → ℕ
+row-weight ps n = natAbs (beside (users-in ps) (amounts-in ps) n)
+
+-- "Its users join, and net is prorated over them by those amounts, as revision. The stage is then allotted", and its net settled
+unfoldable pub stood-in : List (List Pair) → Book → Book
+stood-in rows b =
+    let row = used-row rows in
+    let newcomers = users-in row in
+    page (b .stage) true (b .measurement) (b .users ++ newcomers) (b .lines) (b .balance) (part (net b) (row-weight row) newcomers) (net b)
+
+-- ---- Revise
+
+-- low to high
+abbrev pub liesZ : ℤ → ℤ → ℤ → Bool
+liesZ low high z = both (leZ low z) (leZ z high)
+
+-- "If R lies in −100 to 100"
+abbrev pub tolerated : Book → Bool
+tolerated b = liesZ (negℤ (pos TOLERANCE)) (pos TOLERANCE) (R b)
+
+-- "Otherwise R is prorated by each user's whole amount", none of them negative (row 11)
+abbrev pub gains : Book → ℕ → ℤ
+gains b n = part (R b) (λ m. natAbs (whole b m)) (b .users) n
+
+-- ".. added to the revisions", and its net settled
+unfoldable pub assigned : Book → Book
+assigned b =
+    page (b .stage) (b .allotted) (b .measurement) (b .users) (b .lines) (b .balance) (λ n. b .revision n +ℤ gains b n) (net b)
+
+-- within tolerance "nothing changes"
+abbrev pub revised : Book → Book
+revised b = pick (tolerated b) b (assigned b)
+
+-- ---- Start-final: "next stage, entering. Users and measurement stay; all else is zero."
+
+-- "Stages, in order: provisional, final provisional, final definitive"
+abbrev pub next-stage : Stage → Stage
+next-stage Provisional = FinalProvisional
+next-stage FinalProvisional = FinalDefinitive
+next-stage FinalDefinitive = FinalDefinitive
+
+unfoldable pub restarted : Book → Book
+restarted b =
+    page (next-stage (b .stage)) false (b .measurement) (b .users) [] (λ n kind. pos 0) (λ n. pos 0) (b .settled)
+
+-- ---- what a call does
+
+abbrev pub after : Call → Book → Book
+after (join n) b = joined n b
+after (line n kind c k) b = with-line (a-line n kind c k) b
+after (lent-line n kind c k) b = with-line (a-line n kind c k) b
+after (measure emission downstream) b = measured emission downstream b
+after allot b = allotted b
+after (stand-in rows) b = stood-in rows b
+after revise b = revised b
+after start-final b = restarted b
+
+-- ---- which stage takes which call
+
+abbrev pub is-provisional : Stage → Bool
+is-provisional Provisional = true
+is-provisional FinalProvisional = false
+is-provisional FinalDefinitive = false
+
+abbrev pub is-final-provisional : Stage → Bool
+is-final-provisional Provisional = false
+is-final-provisional FinalProvisional = true
+is-final-provisional FinalDefinitive = false
+
+-- the words in brackets after each call's name, of the stage and of whether it is allotted: each "is first entering, then allotted"
+abbrev pub takes : Call → Stage → Bool → Bool
+-- "Join (entering)", "Line (entering)"
+takes (join n) stage allotted = not allotted
+takes (line n kind c k) stage allotted = not allotted
+takes (lent-line n kind c k) stage allotted = not allotted
+-- "Measure (entering; provisional allotted)"
+takes (measure emission downstream) stage allotted = either (not allotted) (both (is-provisional stage) allotted)
+-- "Allot (entering)"
+takes allot stage allotted = not allotted
+-- "Stand-in (provisional entering ..)"
+takes (stand-in rows) stage allotted = both (is-provisional stage) (not allotted)
+-- "Revise (provisional allotted)"
+takes revise stage allotted = both (is-provisional stage) allotted
+-- "Start-final (provisional or final provisional allotted)"
+takes start-final stage allotted = both (either (is-provisional stage) (is-final-provisional stage)) allotted
+
+-- ---- stated ranges
+
+-- low to high
+abbrev pub lies : ℕ → ℕ → ℕ → Bool
+lies low high n = both (leb low n) (leb n high)
+
+-- users "numbered 1 to 65,535"
+abbrev pub is-user : ℕ → Bool
+is-user n = lies 1 LAST-NUMBER n
+
+-- "user number .. and amount (−2,000,000,000 to 2,000,000,000)"
+abbrev pub pair-right : Pair → Bool
+pair-right p = both (is-user (p .user)) (liesZ (negℤ (pos AMOUNT)) (pos AMOUNT) (p .amount))
+
+-- "each 0 to 64 pairs of user number (rising) and amount"
+unfoldable pub row-in-range : List Pair → Bool
+row-in-range ps = both (lies 0 USERS (length ps)) (both (every pair-right ps) (rising (users-in ps)))
+
+abbrev pub in-range : Call → Bool
+in-range (join n) = is-user n
+-- "user, kind, consumption 0 to 1,000,000,000, loss coefficient 0 to 10,000"
+in-range (line n kind c k) = both (is-user n) (both (lies 1 KINDS kind) (both (lies 0 LIMIT c) (lies 0 COEFFICIENT k)))
+in-range (lent-line n kind c k) = both (is-user n) (both (lies 1 KINDS kind) (both (lies 0 LIMIT c) (lies 0 COEFFICIENT k)))
+-- "emission and downstream emission, 0 to 1,000,000,000, downstream at most emission"
+in-range (measure emission downstream) = both (lies 0 LIMIT emission) (both (lies 0 LIMIT downstream) (leb downstream emission))
+in-range allot = true
+-- "takes fifteen rows"
+in-range (stand-in rows) = both (eqb (length rows) ROWS) (every row-in-range rows)
+in-range revise = true
+in-range start-final = true
+
+-- ---- the table "Refusals"
+
+-- a condition for one kind of call only
+abbrev pub on-join : Call → (ℕ → Bool) → Bool
+on-join (join n) p = p n
+on-join (line n kind c k) p = false
+on-join (lent-line n kind c k) p = false
+on-join (measure emission downstream) p = false
+on-join allot p = false
+on-join (stand-in rows) p = false
+on-join revise p = false
+on-join start-final p = false
+
+abbrev pub on-line : Call → (Line → Bool) → Bool
+on-line (join n) p = false
+on-line (line n kind c k) p = p (a-line n kind c k)
+on-line (lent-line n kind c k) p = p (a-line n kind c k)
+on-line (measure emission downstream) p = false
+on-line allot p = false
+on-line (stand-in rows) p = false
+on-line revise p = false
+on-line start-final p = false
+
+abbrev pub on-allot : Call → Bool → Bool
+on-allot (join n) p = false
+on-allot (line n kind c k) p = false
+on-allot (lent-line n kind c k) p = false
+on-allot (measure emission downstream) p = false
+on-allot allot p = p
+on-allot (stand-in rows) p = false
+on-allot revise p = false
+on-allot start-final p = false
+
+abbrev pub on-stand-in : Call → (List (List Pair) → Bool) → Bool
+on-stand-in (join n) p = false
+on-stand-in (line n kind c k) p = false
+on-stand-in (lent-line n kind c k) p = false
+on-stand-in (measure emission downstream) p = false
+on-stand-in allot p = false
+on-stand-in (stand-in rows) p = p rows
+on-stand-in revise p = false
+on-stand-in start-final p = false
+
+abbrev pub on-revise : Call → Bool → Bool
+on-revise (join n) p = false
+on-revise (line n kind c k) p = false
+on-revise (lent-line n kind c k) p = false
+on-revise (measure emission downstream) p = false
+on-revise allot p = false
+on-revise (stand-in rows) p = false
+on-revise revise p = p
+on-revise start-final p = false
+
+abbrev pub no-user : Book → Bool
+no-user b = eqb (length (b .users)) 0
+
+abbrev pub some-negative : List ℤ → Bool
+some-negative zs = not (every (leZ (pos 0)) zs)
+
+-- "revise outside tolerance", by whole amounts one of which is negative
+abbrev pub negative-outside : Book → Bool
+negative-outside b = both (not (tolerated b)) (some-negative (map (whole b) (b .users)))
+
+abbrev pub some-too-large : Book → Bool
+some-too-large b = not (every (λ n. liesZ (negℤ (pos AMOUNT)) (pos AMOUNT) (whole b n)) (b .users))
+
+-- row by row, each with the calls that it names
+unfoldable pub refusals : Call → Book → List Test
+refusals c b =
+    -- "the stage doesn't take the call, or a stand-in finds a user joined"
+    (1 when either (not (takes c (b .stage) (b .allotted))) (on-stand-in c (λ rows. not (no-user b))))
+    -- "a value or list outside its stated range"
+    ∷ (2 when not (in-range c))
+    -- "line for a user not joined"
+    ∷ (3 when on-line c (λ l. not (has (l .user) (b .users))))
+    -- "user already joined"
+    ∷ (4 when on-join c (λ n. has n (b .users)))
+    -- "all 64 users joined"
+    ∷ (5 when on-join c (λ n. eqb (length (b .users)) USERS))
+    -- "point-day sum .. above 1,000,000,000"
+    ∷ (6 when on-line c (λ l. ltb LIMIT (point-sum (with-line l b))))
+    -- "allot or stand-in unmeasured"
+    ∷ (7 when either (on-allot c (unmeasured (b .measurement))) (on-stand-in c (λ rows. unmeasured (b .measurement))))
+    -- "allot with no user"
+    ∷ (8 when on-allot c (no-user b))
+    -- "stand-in with net at most 100"
+    ∷ (9 when on-stand-in c (λ rows. leZ (net b) (pos TOLERANCE)))
+    -- "no pair in fifteen rows"
+    ∷ (10 when on-stand-in c (λ rows. every is-empty rows))
+    -- "a weight is negative (revise outside tolerance, stand-in ..)"
+    ∷ (11 when either (on-revise c (negative-outside b)) (on-stand-in c (λ rows. some-negative (amounts-in (used-row rows)))))
+    -- "a whole amount would pass 2,000,000,000 in size"
+    ∷ (12 when some-too-large (after c b))
+    ∷ []
+
+-- "If several apply, the row higher up decides"
+abbrev pub book-verdict : Call → Book → Verdict
+book-verdict c b = verdict (refusals c b)
+
+-- ---- the book after a list of calls
 
 -- "a refused call changes nothing"
-abbrev pub entered : Verdict → Call → Book → Book
-entered (refuse n) c b = b
-entered accept c b = record { day = entry c b .after; settled = pick (settles c b) (net (b .day)) (b .settled) }
-
-abbrev pub kept : Call → Book → Book
-kept c b = entered (verdict (entry c b .tests)) c b
+abbrev pub by-verdict : Verdict → Call → Book → Book
+by-verdict (refuse n) c b = b
+by-verdict accept c b = after c b
 
 unfoldable pub book : Calls → Book
-book none = record { day = fresh; settled = pos 0 }
-book (cs then c) = kept c (book cs)
+book none = fresh-book
+book (cs then c) = by-verdict (book-verdict c (book cs)) c (book cs)
 
--- the book's refusals, the last call's first
+-- its refusals, the last call's first
 unfoldable pub verdicts : Calls → List Verdict
 verdicts none = []
-verdicts (cs then c) = verdict (entry c (book cs) .tests) ∷ verdicts cs
+verdicts (cs then c) = book-verdict c (book cs) ∷ verdicts cs

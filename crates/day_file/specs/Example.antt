@@ -15,7 +15,7 @@ use Rattle.point_day.specs.declared.Stage.the-variants.{Provisional}
 use Rattle.point_day.specs.declared.Measurement.the-variants.{Measured}
 use Rattle.wire.specs.Bytes.{little-endian}
 use Rattle.wire.specs.Text.{digits-of, natural, decimal}
-use Rattle.day_book.specs.Book as book
+use Rattle.day_book.specs.Run as run
 use Rattle.file_form.specs.Form.{sorted, none-overlap, sections-right, well-formed}
 use Rattle.day_file.specs.File.{file-calls}
 use Rattle.day_file.specs.Report.{refused, allotted, in-order, report}
@@ -38,11 +38,11 @@ file-E =
 
 -- it stands for these calls
 calls-of-E : file-calls file-E ≡
-    book.measure 1000 100
-    ∷ book.join 7 ∷ book.line 7 1 300 1000 ∷ book.line 7 3 200 0
-    ∷ book.join 9 ∷ book.line 9 5 150 2000
-    ∷ book.join 12 ∷ book.line 12 2 50 0
-    ∷ book.allot ∷ []
+    run.measure 1000 100
+    ∷ run.join 7 ∷ run.line 7 1 300 1000 ∷ run.line 7 3 200 0
+    ∷ run.join 9 ∷ run.line 9 5 150 2000
+    ∷ run.join 12 ∷ run.line 12 2 50 0
+    ∷ run.allot ∷ []
 unfolding file-calls little-endian table flat
 calls-of-E = refl
 

@@ -3,7 +3,7 @@ use mathlib.Core.List.{List, [], _∷_, _++_, map}
 use Prim.Native.Nat.{ℕ, _+_, _*_}
 use Rattle.numbers.specs.Sums.{table}
 use Rattle.numbers.specs.Lists.{flat}
-use Rattle.day_book.specs.Book.{Call, join, line, measure, allot}
+use Rattle.day_book.specs.Run.{Call, join, line, measure, allot}
 use Rattle.file_form.specs.Form.{u8, u16, u32, emission, downstream, Section, sections, USER, LINE, line-count}
 
 -- "then measure, the sections' joins and lines in order, and allot"

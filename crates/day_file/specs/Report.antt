@@ -6,7 +6,7 @@ use Rattle.point_day.specs.Day.{Day, fresh}
 use Rattle.point_day.specs.Calls.{Verdict, refuse, accept}
 use Rattle.point_day.specs.Struct.{read, laid, called}
 use Rattle.point_day.specs.declared.PointDay.{PointDay}
-use Rattle.day_book.specs.Book.{Call, move, verdict-of}
+use Rattle.day_book.specs.Run.{Call, move, verdict-of}
 use Rattle.calendar.specs.Days.{is-gas-day}
 use Rattle.file_form.specs.Form.{gas-day, well-formed}
 use Rattle.day_file.specs.File.{file-calls}

@@ -20,7 +20,7 @@ use Rattle.point_day.specs.declared.Measurement.the-variants.{Unmeasured, Measu
 use Rattle.calendar.specs.Days.{LAST-DAY}
 use Rattle.measurement.specs.Remeasured.{remeasured}
 use Rattle.measurement.proofs.Measures.{measure-2, measure-done}
-use Rattle.day_book.specs.Book.{Call, measure, allot}
+use Rattle.day_book.specs.Run.{Call, measure, allot}
 use Rattle.file_form.specs.Form.{gas-day, emission, downstream, sections, well-formed}
 use Rattle.day_file.specs.File.{section-calls, file-calls}
 use Rattle.io.specs.Counts.{Counts}

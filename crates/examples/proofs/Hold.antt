@@ -7,7 +7,7 @@ use Rattle.proration.specs.Proration.{before, left, share, split, counted, pror
 use Rattle.point_day.specs.Day.{fresh}
 use Rattle.point_day.specs.Calls.{verdict, join, cell-step, cell-in, line-right, line, measure, balanced, allot, nearest-filled, looked-at, opened, stand-in, assigned, revise-by}
 use Rattle.point_day.specs.Struct.{user-at, read, padded, laid, any, faults, taken, called}
-use Rattle.day_book.specs.Book.{run}
+use Rattle.day_book.specs.Run.{run}
 use Rattle.degree_days.specs.Examples as degree-days
 use Rattle.zones.specs.Examples as zones
 use Rattle.telemetered.specs.Examples as telemetered

@@ -13,7 +13,7 @@ use Rattle.degree_days.specs.Examples.{P4}
 use Rattle.zones.specs.Examples.{P10}
 use Rattle.telemetered.specs.Examples.{P5, P6}
 use Rattle.type_1.specs.Examples.{P7}
-use Rattle.day_book.specs.Book.{Call, join, line, measure, allot, stand-in, revise, Calls, none, _then_, run, answer-after}
+use Rattle.day_book.specs.Run.{Call, join, line, measure, allot, stand-in, revise, Calls, none, _then_, run, answer-after}
 
 -- ---- an example
 

@@ -19,7 +19,7 @@ use Rattle.point_day.specs.declared.AllotAnswer.{AllotAnswer}
 use Rattle.point_day.specs.declared.AllotAnswer.the-variants.{Refused, Done}
 use Rattle.point_day.specs.declared.PointDay.{PointDay}
 use Rattle.point_day.proofs.Good.{bare-good, taken-good}
-use Rattle.day_book.specs.Book.{allot}
+use Rattle.day_book.specs.Run.{allot}
 use Rattle.file_form.specs.Form.{sections}
 use Rattle.day_file.specs.File.{section-calls}
 use Rattle.wire.specs.Text.{written}

@@ -3,7 +3,7 @@ use mathlib.Core.List.{List, [], _∷_, _++_, map}
 use Prim.Native.Nat.{ℕ}
 use Rattle.numbers.specs.Lists.{flat}
 use Rattle.point_day.specs.declared.Measurement.{Measurement}
-use Rattle.day_book.specs.Book.{allot}
+use Rattle.day_book.specs.Run.{allot}
 use Rattle.file_form.specs.Form.{sections}
 use Rattle.day_file.specs.File.{section-calls}
 use Rattle.day_file.specs.Report.{Report, in-order}

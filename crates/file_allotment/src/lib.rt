@@ -9,7 +9,7 @@ ghost use Rattle.point_day.specs.Struct.{taken};
 ghost use Rattle.point_day.specs.declared.Measurement.the-variants.{Measured};
 ghost use Rattle.calendar.specs.Days.{LAST-DAY};
 ghost use Rattle.wire.specs.Text.{written};
-ghost use Rattle.day_book.specs.Book.{allot};
+ghost use Rattle.day_book.specs.Run.{allot};
 ghost use Rattle.file_form.specs.Form.{well-formed};
 ghost use Rattle.day_file.specs.Report.{in-order};
 ghost use Rattle.day_file.specs.Text.{text};

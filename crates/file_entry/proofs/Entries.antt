@@ -36,7 +36,7 @@ use Rattle.point_day.proofs.Padding.{map-set}
 use Rattle.entry.proofs.Joins.{join-2, join-4, join-5, join-done}
 use Rattle.line_cells.proofs.Ranges.{ranges}
 use Rattle.lines.proofs.Lining.{line-2, line-done}
-use Rattle.day_book.specs.Book.{Call, join, line, move, verdict-of}
+use Rattle.day_book.specs.Run.{Call, join, line, move, verdict-of}
 use Rattle.day_file.specs.Report.{refused, unless-refused, in-order}
 use Rattle.file_entry.specs.Entering.{entering, Entered}
 use Rattle.file_lines.specs.Pieces.{user-refusal}

@@ -15,7 +15,7 @@ use Rattle.point_day.specs.declared.Measurement.{Measurement}
 use Rattle.point_day.specs.declared.PointDay.{PointDay}
 use Rattle.point_day.proofs.Back.{flat-snoc}
 use Rattle.line_cells.specs.Cell.{line-losses, past-limit, more, place}
-use Rattle.day_book.specs.Book.{Call, line}
+use Rattle.day_book.specs.Run.{Call, line}
 use Rattle.day_file.specs.Report.{refused, in-order}
 use Rattle.file_entry.specs.Entering.{entering, Entered, Unless-refused, Comes-to}
 use Rattle.file_lines.specs.declared.Entry.{Entry}

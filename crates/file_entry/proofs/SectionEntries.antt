@@ -9,7 +9,7 @@ use Rattle.numbers.specs.Sums.{table}
 use Rattle.numbers.specs.Lists.{flat}
 use Rattle.point_day.specs.Limits.{LAST-NUMBER}
 use Rattle.point_day.proofs.Back.{map-table}
-use Rattle.day_book.specs.Book.{Call, join}
+use Rattle.day_book.specs.Run.{Call, join}
 use Rattle.file_form.specs.Form.{USER, LINE, u8, u16, u32, Section, pair-count, section-at, sections, line-count}
 use Rattle.day_file.specs.File.{user-of, line-at, section-calls}
 use Rattle.file_entry.specs.Entering.{entering, Entered, Unless-refused, Comes-to}

@@ -17,9 +17,9 @@ use Rattle.point_day.proofs.Taken.{taken-facts}
 use Rattle.point_day.proofs.Arrays.{Full}
 use Rattle.point_day.proofs.Back.{read-count, laid-read}
 use Rattle.point_day.proofs.Sound.{Bare, taken-sound, sum-zeros}
-use Rattle.point_day.proofs.Good.{Formed, Good, bare-good, taken-good}
-use Rattle.day_book.specs.Book.{Call, move, Book, kept}
-use Rattle.day_book.proofs.Keeps.{kept-good, kept-day}
+use Rattle.point_day.proofs.Good.{Formed, Good, bare-good}
+use Rattle.day_book.specs.Run.{Call, move}
+use Rattle.day_book.proofs.Keeps as keeps
 
 -- ---- the day of such a point-day is one that calls reach from fresh
 
@@ -56,16 +56,9 @@ module _ (p : PointDay) (z : Sized p) (ok : taken p ≡ true) (e : p .allotted �
       (all-map₂ Full Bare (λ u. Full u × Bare u) (λ u f b. (f, b)) (read p .users) (s .full) bare) (named (read p .users) (t .named)))
       bare (s .sum)
 
-  after : (c : Call) → Book
-  after c = kept c (record { day = read p; settled = pos 0 })
-
   pub called-taken : (c : Call) → taken (called (move c) p .day) ≡ true
-  unfolding after
   called-taken c =
-      let b : Book = record { day = read p; settled = pos 0 } in
-      ap taken
-      (ap (λ d. called (move c) d .day) (sym (laid-read p z (taken-facts p ok))) ∙ kept-day b entering-good c)
-      ∙ taken-good (after c .day) (after c .settled) (kept-good b entering-good c)
+      ap (λ d. taken (called (move c) d .day)) (sym (laid-read p z (taken-facts p ok))) ∙ keeps.called-taken (read p) (pos 0) entering-good c
 
   -- the same of a call's outcome
   pub outcome-taken : (c : Call) {a : _} {q : PointDay} → outcome a q ≡ called (move c) p → taken q ≡ true

@@ -13,7 +13,7 @@ use Rattle.point_day.specs.declared.Stage.the-variants.{Provisional}
 use Rattle.point_day.specs.declared.Measurement.{Measurement}
 use Rattle.point_day.specs.declared.Measurement.the-variants.{Unmeasured}
 use Rattle.point_day.specs.declared.PointDay.{PointDay}
-use Rattle.day_book.specs.Book.{Call}
+use Rattle.day_book.specs.Run.{Call}
 use Rattle.day_file.specs.Report.{refused, in-order}
 use Rattle.file_lines.specs.declared.Entry.{Entry}
 use Rattle.file_lines.specs.declared.Entry.the-variants.{Refused, Offtake}
