@@ -20,7 +20,8 @@ use Rattle.point_day.proofs.Wholes.{small-right}
 use Rattle.point_day.proofs.Good.{Good}
 use Rattle.day_book.specs.Run.{Call, move}
 use Rattle.day_book.specs.Book.{Book, some-too-large, after, book-verdict}
-use Rattle.day_book.specs.Claim.{user-of, day-of, values}
+use Rattle.day_book.specs.Book.{values}
+use Rattle.day_book.specs.Described.{user-of, day-of}
 use Rattle.day_book.proofs.Keeps.{good-after}
 use Rattle.day_book.proofs.Figures.{numbers-is, too-large-is}
 

@@ -18,7 +18,8 @@ use Rattle.day_book.specs.Run.{Call, join, line, lent-line, measure, all
 use Rattle.day_book.specs.Run.{run, answer-after}
 use Rattle.day_book.specs.Book.{Book, fresh-book, net, joined, with-line, measured, allotted, used-row, users-in, stood-in}
 use Rattle.day_book.specs.Book.{tolerated, assigned, restarted, after, refusals, book-verdict, by-verdict, book}
-use Rattle.day_book.specs.Claim.{day-of, answer-by}
+use Rattle.day_book.specs.Book.{answer-by}
+use Rattle.day_book.specs.Described.{day-of}
 use Rattle.day_book.proofs.Keeps.{settled-after, revise-allotted, good-after, called-good}
 use Rattle.day_book.proofs.Figures.{net-day}
 use Rattle.day_book.proofs.Agreeing.{Kept, measured-right, Agree}

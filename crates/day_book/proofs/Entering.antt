@@ -18,9 +18,10 @@ use Rattle.point_day.specs.declared.Stage.{Stage}
 use Rattle.point_day.specs.declared.Stage.the-variants.{Provisional, FinalProvisional, FinalDefinitive}
 use Rattle.point_day.proofs.Good.{accepted}
 use Rattle.day_book.specs.Run.{join, line, lent-line, measure, start-final, move}
-use Rattle.day_book.specs.Book.{Book, added-up, point-sum, a-line, joined, with-line, measured, restarted, next-stage, is-provisional}
+use Rattle.day_book.specs.Calls.{a-line}
+use Rattle.day_book.specs.Book.{Book, added-up, point-sum, joined, with-line, measured, restarted, next-stage, is-provisional}
 use Rattle.day_book.specs.Book.{is-final-provisional, lies, in-range, refusals, book-verdict}
-use Rattle.day_book.specs.Claim.{user-of, day-of}
+use Rattle.day_book.specs.Described.{user-of, day-of}
 use Rattle.day_book.proofs.Figures.{numbers-is, sum-is}
 use Rattle.day_book.proofs.Lines.{users-after, line-sum, newcomer-empty}
 use Rattle.day_book.proofs.Agreeing.{Kept, users-apart, users-few, Agree, row, none-holds, row-12, all-joined}

@@ -21,7 +21,7 @@ use Rattle.point_day.specs.declared.Measurement.{Measurement}
 use Rattle.point_day.specs.declared.Measurement.the-variants.{Unmeasured, Measured}
 use Rattle.day_book.specs.Book.{Book, kinds, kinds-2-to-5, net-of, net, offtake, offtake-of, point-sum, whole, to-balance, weighing}
 use Rattle.day_book.specs.Book.{user-weight, kind-weight, liesZ, some-negative, some-too-large}
-use Rattle.day_book.specs.Claim.{user-of, day-of}
+use Rattle.day_book.specs.Described.{user-of, day-of}
 
 -- ---- tests of amounts
 

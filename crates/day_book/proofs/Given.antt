@@ -1,30 +1,31 @@
 -- Every share that a call gave is less than 1 kWh from its exact proportion by the book's weights. Assumes nothing.
 use mathlib.Core.Path.{_≡_, refl, sym, ap, _∙_, subst, subst⁻¹}
 use mathlib.Core.Bool.{Bool, true, false, not}
-use mathlib.Core.List.{List, [], _∷_, _++_, map, List·Memᴰ, List·Memᴰ·not-nil, List·Memᴰ·cases-cons}
-use mathlib.Core.Logic.{⊎-elim}
-use Prim.Native.Nat.{ℕ, _-_, _<_}
+use mathlib.Core.List.{List, [], _∷_, _++_, map}
+use Prim.Native.Nat.{ℕ, _<_}
 use native.Mathlib.Omega.{arith}
 use lib.Dec.{eqb}
 use lib.IntN.{ℤ, pos, natAbs, _+ℤ_, _-ℤ_, +ℤ-comm, +ℤ-negℤ-cancel}
 use lib.ListN.{length, replicate, length-map}
 use Rattle.numbers.specs.Sums.{pick, at, atZ, total, totalZ}
 use Rattle.numbers.specs.Lists.{both, either, has, distinct}
-use Rattle.numbers.proofs.Lists.{All, never, either-fst, all-map, distinct-is}
+use Rattle.numbers.proofs.Lists.{All, never, either-fst, distinct-is}
 use Rattle.proration.specs.Proration.{counted, prorateZ}
 use Rattle.proration.proofs.Signs.{totalZ-is}
 use Rattle.proration.proofs.Fairness.{share-near}
-use Rattle.point_day.specs.Day.{User}
 use Rattle.point_day.specs.Calls.{Pair, Verdict, refuse, accept, within-tolerance, revision-assigned}
-use Rattle.point_day.proofs.Each.{at-all, map-at, map-of-all}
+use Rattle.point_day.specs.declared.PointDay.{PointDay}
+use Rattle.point_day.proofs.Each.{all-at, at-all, map-at}
 use Rattle.point_day.proofs.Good.{accepted}
 use Rattle.day_book.specs.Run.{Call, join, line, lent-line, measure, allot, stand-in, revise, start-final}
 use Rattle.day_book.specs.Book.{Book, kinds, net, whole, R, part, to-balance, user-weight, kind-weight, user-share, kind-share}
 use Rattle.day_book.specs.Book.{allotted, users-in, used-row, row-weight, stood-in, tolerated, gains, assigned}
 use Rattle.day_book.specs.Book.{some-negative, refusals, book-verdict, by-verdict}
+use Rattle.day_book.specs.Arrays.{balance-at, user-balance, SameUser, Holds}
 use Rattle.day_book.specs.Shares.{counts, LessThan1, Near, EachUser, AllotShared, StandInShared, ReviseShared, assigns, CallShared}
-use Rattle.day_book.specs.Claim.{user-of, day-of, answer-by}
+use Rattle.day_book.specs.Book.{answer-by}
 use Rattle.day_book.proofs.Parties.{all-has, parts-all}
+use Rattle.day_book.proofs.Lines.{five-eq}
 use Rattle.day_book.proofs.Agreeing.{Kept, users-apart}
 use Rattle.day_book.proofs.Sharing.{five-apart, row-apart, no-users}
 use Rattle.day_book.proofs.Books.{passed}
@@ -65,90 +66,108 @@ kinds-sum b n =
     ap totalZ (parts-all (user-share b n) (kind-weight b n) kinds five-apart)
     ∙ totalZ-is (user-share b n) (map (kind-weight b n) kinds) kinds (omega arith) (distinct-is kinds five-apart) (omega arith)
 
--- ---- every user of a day
+-- ---- every user of a point-day that holds what a book does
 
-member : (P : User → Type 0) (us : List User) → All P us → (u : User) → List·Memᴰ u us → P u
-member P [] h u m = absurd (List·Memᴰ·not-nil m)
-member P (v ∷ us) h u m = ⊎-elim (λ e. subst⁻¹ P e (h .0)) (λ n. member P us (h .1) u n) (List·Memᴰ·cases-cons m)
+module _ (d : PointDay) (b : Book) (same : Holds d b) where
+  -- what is so of each of the book's users, at its place
+  each : (Q : ℕ → ℕ → Type 0) (P : ℕ → Type 0) → ((s n : ℕ) → SameUser d s b n → P n → Q s n) → All P (b .users) → EachUser d Q
+  each Q P f all s l =
+      let k : s < length (b .users) = omega (arith, same .count) in
+      let u = same .users s k in
+      subst⁻¹ (Q s) (u .number) (f s (at (b .users) s) u (all-at P 0 (b .users) all s k))
 
-each : (b : Book) (P : User → Type 0) → All (λ n. P (user-of b n)) (b .users) → EachUser (day-of b) P
-unfolding day-of
-each b P h u m = member P (map (user-of b) (b .users)) (map-of-all P (user-of b) (b .users) h) u m
+  kinds-same : (s n : ℕ) → SameUser d s b n → map (balance-at d s) kinds ≡ map (b .balance n) kinds
+  unfolding has
+  kinds-same s n u = five-eq (u .balance 1 refl) (u .balance 2 refl) (u .balance 3 refl) (u .balance 4 refl) (u .balance 5 refl)
 
 -- ---- the three calls
 
-module _ (b : Book) (h : Kept b) where
-  -- a kind's share of its user's
-  abbrev KindNear : ℕ → ℤ → List ℤ → ℕ → Type 0
-  KindNear n z zs kind = Near z (kind-weight b n) kinds kind (atZ zs (kind - 1))
+all-of : {P : ℕ → Type 0} → ((n : ℕ) → P n) → (ns : List ℕ) → All P ns
+all-of f [] = tt
+all-of f (n ∷ ns) = (f n, all-of f ns)
 
-  allot-shared : AllotShared b (day-of (allotted b))
+gained : (r z : ℤ) → (r +ℤ z) -ℤ r ≡ z
+gained r z = ap (λ y. y -ℤ r) (+ℤ-comm r z) ∙ +ℤ-negℤ-cancel z r
+
+module _ (b : Book) (h : Kept b) where
+  -- a kind's share x of its user's share z
+  abbrev KindNear : ℕ → ℕ → ℤ → ℤ → Type 0
+  KindNear n kind z x = Near z (kind-weight b n) kinds kind x
+
+  kinds-near : (n kind : ℕ) → has kind kinds ≡ true → KindNear n kind (totalZ (map (kind-share b n) kinds)) (kind-share b n kind)
+  kinds-near n kind e =
+      subst⁻¹ (λ z. KindNear n kind z (kind-share b n kind)) (kinds-sum b n)
+      (all-has (λ kind. KindNear n kind (user-share b n) (kind-share b n kind)) kinds
+      (all-near (user-share b n) (kind-weight b n) kinds five-apart) kind e)
+
+  allot-shared : (d : PointDay) → Holds d (allotted b) → AllotShared b d
   unfolding allotted
-  allot-shared = record {
+  allot-shared d same = record {
     balance =
-        each (allotted b) (λ u. Near (to-balance b) (user-weight b) (b .users) (u .number) (totalZ (u .balance)))
-        (all-map _ _ (λ n k. subst⁻¹ (λ z. Near (to-balance b) (user-weight b) (b .users) n z) (kinds-sum b n) k) (b .users)
-        (all-near (to-balance b) (user-weight b) (b .users) (users-apart b h)));
+        each d (allotted b) same _ (λ n. Near (to-balance b) (user-weight b) (b .users) n (user-share b n))
+        (λ s n u k. subst⁻¹ (λ z. Near (to-balance b) (user-weight b) (b .users) n z)
+        (ap totalZ (kinds-same d (allotted b) same s n u) ∙ kinds-sum b n) k)
+        (all-near (to-balance b) (user-weight b) (b .users) (users-apart b h));
     of-kinds =
-        each (allotted b) (λ u. (kind : ℕ) → has kind kinds ≡ true → KindNear (u .number) (totalZ (u .balance)) (u .balance) kind)
-        (all-of (λ n. all-has (KindNear n (totalZ (map (kind-share b n) kinds)) (map (kind-share b n) kinds)) kinds
-        (subst⁻¹ (λ z. All (KindNear n z (map (kind-share b n) kinds)) kinds) (kinds-sum b n)
-        (all-near (user-share b n) (kind-weight b n) kinds five-apart))) (b .users));
+        each d (allotted b) same
+        (λ s n. (kind : ℕ) → has kind kinds ≡ true → KindNear n kind (user-balance d s) (balance-at d s kind))
+        (λ n. (kind : ℕ) → has kind kinds ≡ true → KindNear n kind (totalZ (map (kind-share b n) kinds)) (kind-share b n kind))
+        (λ s n u k kind e.
+        subst⁻¹ (KindNear n kind (user-balance d s)) (u .balance kind e)
+        (subst⁻¹ (λ zs. KindNear n kind (totalZ zs) (kind-share b n kind)) (kinds-same d (allotted b) same s n u) (k kind e)))
+        (all-of kinds-near (b .users));
   }
-    where
-      all-of : {P : ℕ → Type 0} → ((n : ℕ) → P n) → (ns : List ℕ) → All P ns
-      all-of f [] = tt
-      all-of f (n ∷ ns) = (f n, all-of f ns)
 
   stand-in-shared : (rows : List (List Pair)) → book-verdict (stand-in rows) b ≡ accept
-      → StandInShared (used-row rows) b (day-of (stood-in rows b))
+      → (d : PointDay) → Holds d (stood-in rows b) → StandInShared (used-row rows) b d
   unfolding stood-in
-  stand-in-shared rows v =
+  stand-in-shared rows v d same =
       let ps = used-row rows in
       let ns = users-in ps in
       record {
         weights = unfold refusals in accepted (refusals (stand-in rows) b) v .1 .1 .1 .1 .1 .1 .1 .1 .1 .1 .0;
         revision =
-            each (stood-in rows b) (λ u. Near (net b) (row-weight ps) ns (u .number) (u .revision))
+            each d (stood-in rows b) same _ (λ n. Near (net b) (row-weight ps) ns n (part (net b) (row-weight ps) ns n))
+            (λ s n u k. subst⁻¹ (Near (net b) (row-weight ps) ns n) (u .revision) k)
             (subst⁻¹ (λ ms. All (λ n. Near (net b) (row-weight ps) ns n (part (net b) (row-weight ps) ns n)) (ms ++ ns))
             (no-users rows b h (passed b h (stand-in rows) v))
             (all-near (net b) (row-weight ps) ns (row-apart rows b h (passed b h (stand-in rows) v))));
       }
 
-  gained : (r z : ℤ) → (r +ℤ z) -ℤ r ≡ z
-  gained r z = ap (λ y. y -ℤ r) (+ℤ-comm r z) ∙ +ℤ-negℤ-cancel z r
+  abbrev sizes : ℕ → ℕ
+  sizes n = natAbs (whole b n)
 
-  assigned-shared : book-verdict revise b ≡ accept → tolerated b ≡ false → ReviseShared b (day-of (assigned b))
+  assigned-shared : book-verdict revise b ≡ accept → tolerated b ≡ false → (d : PointDay) → Holds d (assigned b) → ReviseShared b d
   unfolding assigned
-  assigned-shared v t = record {
+  assigned-shared v t d same = record {
     weights =
         unfold refusals in
         either-fst (some-negative (map (whole b) (b .users))) false
         (ap (λ p. either (both (not p) (some-negative (map (whole b) (b .users)))) false) (sym t)
         ∙ accepted (refusals revise b) v .1 .1 .1 .1 .1 .1 .1 .1 .1 .1 .0);
     revision =
-        each (assigned b) (λ u. Near (R b) (λ n. natAbs (whole b n)) (b .users) (u .number) (u .revision -ℤ b .revision (u .number)))
-        (all-map _ _
-        (λ n k. subst⁻¹ (λ z. Near (R b) (λ n. natAbs (whole b n)) (b .users) n z) (gained (b .revision n) (gains b n)) k) (b .users)
-        (all-near (R b) (λ n. natAbs (whole b n)) (b .users) (users-apart b h)));
+        each d (assigned b) same _ (λ n. Near (R b) sizes (b .users) n (gains b n))
+        (λ s n u k. subst⁻¹ (Near (R b) sizes (b .users) n) (ap (λ z. z -ℤ b .revision n) (u .revision) ∙ gained (b .revision n) (gains b n)) k)
+        (all-near (R b) sizes (b .users) (users-apart b h));
   }
 
   -- ---- a call, by the book's verdict
 
-  revise-shared : book-verdict revise b ≡ accept → (p : Bool) → tolerated b ≡ p
-      → assigns (pick p (within-tolerance (R b)) (revision-assigned (R b))) ≡ true → ReviseShared b (day-of (pick p b (assigned b)))
-  revise-shared v true t a = never a
-  revise-shared v false t a = assigned-shared v t
+  revise-shared : book-verdict revise b ≡ accept → (p : Bool) → tolerated b ≡ p → (d : PointDay) → Holds d (pick p b (assigned b))
+      → assigns (pick p (within-tolerance (R b)) (revision-assigned (R b))) ≡ true → ReviseShared b d
+  revise-shared v true t d same a = never a
+  revise-shared v false t d same a = assigned-shared v t d same
 
-  pub shared-by : (c : Call) (v : Verdict) → book-verdict c b ≡ v → CallShared c (answer-by v c b) b (day-of (by-verdict v c b))
-  shared-by (join n) v e = tt
-  shared-by (line n kind c k) v e = tt
-  shared-by (lent-line n kind c k) v e = tt
-  shared-by (measure emission downstream) v e = tt
-  shared-by allot (refuse n) e = λ a. never a
-  shared-by allot accept e = λ a. allot-shared
-  shared-by (stand-in rows) (refuse n) e = λ a. never a
-  shared-by (stand-in rows) accept e = λ a. stand-in-shared rows e
-  shared-by revise (refuse n) e = λ a. never a
-  shared-by revise accept e = revise-shared e (tolerated b) refl
-  shared-by start-final v e = tt
+  pub shared-by : (c : Call) (v : Verdict) → book-verdict c b ≡ v → (d : PointDay) → Holds d (by-verdict v c b)
+      → CallShared c (answer-by v c b) b d
+  shared-by (join n) v e d same = tt
+  shared-by (line n kind c k) v e d same = tt
+  shared-by (lent-line n kind c k) v e d same = tt
+  shared-by (measure emission downstream) v e d same = tt
+  shared-by allot (refuse n) e d same = λ a. never a
+  shared-by allot accept e d same = λ a. allot-shared d same
+  shared-by (stand-in rows) (refuse n) e d same = λ a. never a
+  shared-by (stand-in rows) accept e d same = λ a. stand-in-shared rows e d same
+  shared-by revise (refuse n) e d same = λ a. never a
+  shared-by revise accept e d same = revise-shared e (tolerated b) refl d same
+  shared-by start-final v e d same = tt

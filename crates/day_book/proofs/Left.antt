@@ -11,11 +11,13 @@ use Rattle.numbers.proofs.Lists.{map-append}
 use Rattle.point_day.specs.Day.{User}
 use Rattle.point_day.specs.Calls.{Verdict, refuse, accept, within-tolerance, revision-assigned}
 use Rattle.day_book.specs.Run.{Call, join, line, lent-line, measure, allot, stand-in, revise, start-final}
-use Rattle.day_book.specs.Book.{Line, Book, R, joined, with-line, measured, stood-in, tolerated, assigned, restarted, after}
+use Rattle.day_book.specs.Calls.{Line, a-line}
+use Rattle.day_book.specs.Book.{Book, R, joined, with-line, measured, stood-in, tolerated, assigned, restarted, after}
 use Rattle.day_book.specs.Book.{by-verdict}
 use Rattle.day_book.specs.Book as own
 use Rattle.day_book.specs.Leaves.{Leaves, LeavesBy}
-use Rattle.day_book.specs.Claim.{user-of, day-of, answer-by}
+use Rattle.day_book.specs.Book.{answer-by}
+use Rattle.day_book.specs.Described.{user-of, day-of}
 use Rattle.day_book.proofs.Figures.{of-each}
 
 -- two books with the same users, and one figure of each user the same
@@ -54,8 +56,8 @@ joined-after b n =
 leaves-after : (c : Call) (b : Book) → LeavesBy (answer-by accept c b) c (day-of b) (day-of (after c b))
 unfolding day-of joined with-line measured own.allotted stood-in assigned restarted
 leaves-after (join n) b = (refl, refl, refl, joined-after b n)
-leaves-after (line n kind c k) b = line-leaves (own.a-line n kind c k) b
-leaves-after (lent-line n kind c k) b = line-leaves (own.a-line n kind c k) b
+leaves-after (line n kind c k) b = line-leaves (a-line n kind c k) b
+leaves-after (lent-line n kind c k) b = line-leaves (a-line n kind c k) b
 leaves-after (measure emission downstream) b = (refl, refl, refl)
 leaves-after allot b =
     let y = own.allotted b in

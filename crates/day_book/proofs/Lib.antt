@@ -7,6 +7,7 @@ pub mod Entering
 pub mod Sharing
 pub mod Books
 pub mod Given
+pub mod Everything
 pub mod Placed
 pub mod Left
 pub mod Theorem

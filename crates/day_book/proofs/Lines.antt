@@ -14,8 +14,9 @@ use Rattle.numbers.proofs.Lists.{All, true≢false, never, both-fst, both-snd, 
 use Rattle.point_day.specs.Limits.{KINDS}
 use Rattle.point_day.specs.Day.{empty-user}
 use Rattle.point_day.specs.Calls.{cell-step, user-line, for-user}
-use Rattle.day_book.specs.Book.{Line, Book, kinds, losses-of, added-up, offtake-of, point-sum, a-line, with-line}
-use Rattle.day_book.specs.Claim.{user-of}
+use Rattle.day_book.specs.Calls.{Line, a-line}
+use Rattle.day_book.specs.Book.{Book, kinds, losses-of, added-up, offtake-of, point-sum, with-line}
+use Rattle.day_book.specs.Described.{user-of}
 use Rattle.day_book.proofs.Parties.{map-all, others}
 
 -- ---- five kinds

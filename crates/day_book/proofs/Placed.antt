@@ -18,7 +18,7 @@ use Rattle.point_day.proofs.Each.{map-at}
 use Rattle.point_day.proofs.Good.{all-full}
 use Rattle.day_book.specs.Book.{Book, kinds, consumption, losses}
 use Rattle.day_book.specs.Arrays.{place, Holds}
-use Rattle.day_book.specs.Claim.{user-of, day-of}
+use Rattle.day_book.specs.Described.{user-of, day-of}
 use Rattle.day_book.proofs.Parties.{all-has}
 use Rattle.day_book.proofs.Agreeing.{Kept, users-few}
 
@@ -113,29 +113,38 @@ module _ (b : Book) (h : Kept b) where
   lost-five : (u : User) → Full u → length (lost u) ≡ 5
   lost-five u k = length-map (u .losses) pos ∙ k .losses
 
+  abbrev of-used : ℕ → ℕ → ℤ
+  of-used n kind = pos (consumption b n kind)
+
+  abbrev of-lost : ℕ → ℕ → ℤ
+  of-lost n kind = pos (losses b n kind)
+
   pub holds : Holds (laid (day-of b)) b
   unfolding laid day-of
   holds = record {
-    sized = record {
-      users = ones-long 0 (λ (u : User). u .number);
-      consumption = cells-long used (λ n kind. pos (consumption b n kind)) used-five (λ n. refl);
-      losses = cells-long lost (λ n kind. pos (losses b n kind)) lost-five (λ n. refl);
-      balance = cells-long shared (b .balance) (λ u k. k .balance) (λ n. refl);
-      revision = ones-long (pos 0) (λ (u : User). u .revision);
-    };
     stage = refl;
     allotted = refl;
     measurement = refl;
     count = long;
-    users = λ s l. one-at 0 (λ (u : User). u .number) s l;
-    used = cell-at used (λ n kind. pos (consumption b n kind)) used-five (λ n. refl);
-    lost = cell-at lost (λ n kind. pos (losses b n kind)) lost-five (λ n. refl);
-    balance = cell-at shared (b .balance) (λ u k. k .balance) (λ n. refl);
-    revision = λ s l. one-at (pos 0) (λ (u : User). u .revision) s l;
-    no-user = λ s l. (ones-past 0 (λ (u : User). u .number) s l, ones-past (pos 0) (λ (u : User). u .revision) s l);
-    no-figure = λ i l. (
-      cells-past used (λ n kind. pos (consumption b n kind)) used-five (λ n. refl) i l,
-      cells-past lost (λ n kind. pos (losses b n kind)) lost-five (λ n. refl) i l,
-      cells-past shared (b .balance) (λ u k. k .balance) (λ n. refl) i l,
-    );
+    users = λ s l. record {
+      number = one-at 0 (λ (u : User). u .number) s l;
+      used = λ kind. cell-at used of-used used-five (λ n. refl) s kind l;
+      lost = λ kind. cell-at lost of-lost lost-five (λ n. refl) s kind l;
+      balance = λ kind. cell-at shared (b .balance) (λ u k. k .balance) (λ n. refl) s kind l;
+      revision = one-at (pos 0) (λ (u : User). u .revision) s l;
+    };
+    past = λ s l. record {
+      number = ones-past 0 (λ (u : User). u .number) s l;
+      used = λ kind. cells-past used of-used used-five (λ n. refl) (place s kind) (omega arith);
+      lost = λ kind. cells-past lost of-lost lost-five (λ n. refl) (place s kind) (omega arith);
+      balance = λ kind. cells-past shared (b .balance) (λ u k. k .balance) (λ n. refl) (place s kind) (omega arith);
+      revision = ones-past (pos 0) (λ (u : User). u .revision) s l;
+    };
+    sized = record {
+      users = ones-long 0 (λ (u : User). u .number);
+      consumption = cells-long used of-used used-five (λ n. refl);
+      losses = cells-long lost of-lost lost-five (λ n. refl);
+      balance = cells-long shared (b .balance) (λ u k. k .balance) (λ n. refl);
+      revision = ones-long (pos 0) (λ (u : User). u .revision);
+    };
   }

@@ -32,7 +32,8 @@ use Rattle.day_book.specs.Book.{allotted, users-in, amounts-in, is-empty
 use Rattle.day_book.specs.Book.{stood-in, tolerated, assigned, revised, is-provisional, takes, pair-right}
 use Rattle.day_book.specs.Book.{row-in-range}
 use Rattle.day_book.specs.Book.{unmeasured, no-user, some-negative, some-too-large, refusals, book-verdict}
-use Rattle.day_book.specs.Claim.{user-of, day-of, values}
+use Rattle.day_book.specs.Book.{values}
+use Rattle.day_book.specs.Described.{user-of, day-of}
 use Rattle.day_book.proofs.Keeps.{day-R, same-R, revise-allotted}
 use Rattle.day_book.proofs.Parties.{beside-all, parts-all, zip-parts}
 use Rattle.day_book.proofs.Figures.{in-size, every-eq, negative-is, some-is, numbers-is, of-each, whole-is, wholes-are, too-large-is}

@@ -1,36 +1,44 @@
--- Demand 3 holds of every list of calls. Assumes nothing.
+-- Demand 3 holds of every list of calls; laws beside it. Assumes nothing.
 use mathlib.Core.Path.{_≡_, refl, sym, ap, ap₂, _∙_, subst⁻¹}
 use mathlib.Core.Bool.{Bool, true, false}
-use mathlib.Core.List.{List, _∷_, map}
+use mathlib.Core.List.{List, [], _∷_, map}
 use Prim.Native.Nat.{ℕ, _≤_}
 use lib.IntN.{natAbs, _-ℤ_}
 use Rattle.numbers.specs.Sums.{pick}
 use Rattle.numbers.proofs.Lists.{never, both-fst, both-snd}
-use Rattle.point_day.specs.Limits.{TOLERANCE}
-use Rattle.point_day.specs.Day.{User, Day, numbers, net, all-whole}
-use Rattle.point_day.specs.Calls.{Answer, Verdict, refuse, accept, within-tolerance, revision-assigned}
+use Rattle.point_day.specs.Day as day
+use Rattle.point_day.specs.Day.{Day, all-whole}
+use Rattle.point_day.specs.Answers.{Answer, within-tolerance, revision-assigned}
+use Rattle.point_day.specs.Calls.{Verdict, refuse, accept}
 use Rattle.point_day.specs.Struct.{read, laid, Outcome, called}
 use Rattle.point_day.specs.declared.PointDay.{PointDay}
 use Rattle.point_day.proofs.Good.{allotted, good-sound}
 use Rattle.point_day.proofs.Bounds.{revise-close}
+use Rattle.day_book.specs.Calls.{Line, by-call}
 use Rattle.day_book.specs.Run.{Call, join, line, lent-line, measure, allot, stand-in, revise, start-final, Calls, none, _then_, move}
 use Rattle.day_book.specs.Run.{run, answer-after, answers, Chain, begin, goes-on, verdict-of, accepts}
-use Rattle.day_book.specs.Book.{Book, fresh-book, R, joined, with-line, measured, stood-in, tolerated, assigned, restarted}
-use Rattle.day_book.specs.Book.{after, book-verdict, by-verdict, book, verdicts}
+use Rattle.day_book.specs.Book.{TOLERANCE, Book, fresh-book, net-of, R, joined, with-line, measured, stood-in, tolerated, assigned, restarted}
+use Rattle.day_book.specs.Book.{after, book-verdict, by-verdict, book, verdicts, values, answer-by, book-answers}
 use Rattle.day_book.specs.Book as own
+use Rattle.day_book.specs.Arrays.{everything, Holds}
 use Rattle.day_book.specs.Shares.{CallShared}
-use Rattle.day_book.specs.Arrays.{Holds}
-use Rattle.day_book.specs.Leaves.{LeavesBy}
-use Rattle.day_book.specs.Claim.{user-of, day-of, values, answer-by, book-answers, lines-after, stage-lines, AllShared, AllLeft}
-use Rattle.day_book.specs.Claim.{is-revise, ends-revised, Demand3, Returned}
-use Rattle.day_book.proofs.Figures.{numbers-is, of-each}
-use Rattle.day_book.proofs.Agreeing.{Kept}
+use Rattle.day_book.specs.Claim.{stage-lines, AllShared, is-revise, ends-revised, Demand3, Returned}
+use Rattle.day_book.specs.Described.{day-of}
+use Rattle.day_book.specs.Leaves.{LeavesBy, AllLeft}
+use Rattle.day_book.proofs.Figures.{net-day}
+use Rattle.day_book.proofs.Agreeing.{Kept, measured-right}
 use Rattle.day_book.proofs.Books.{agrees, passed, book-kept, run-is, answer-is, read-is}
+use Rattle.day_book.proofs.Everything.{everything-laid}
 use Rattle.day_book.proofs.Given.{shared-by}
 use Rattle.day_book.proofs.Placed.{holds}
 use Rattle.day_book.proofs.Left.{left-by}
 
--- ---- the same refusals and answers
+-- ---- the same answers
+
+answers-same : (cs : Calls) → answers cs ≡ book-answers cs
+unfolding answers book-answers
+answers-same none = refl
+answers-same (cs then c) = ap₂ _∷_ (answer-is cs c) (answers-same cs)
 
 -- an accepted call's answer is no refusal
 values-accept : (c : Call) (b : Book) → verdict-of (values c b) ≡ accept
@@ -54,32 +62,16 @@ verdict-by accept c b = values-accept c b
 verdict-is : (cs : Calls) (c : Call) → verdict-of (answer-after cs c) ≡ book-verdict c (book cs)
 verdict-is cs c = ap verdict-of (answer-is cs c) ∙ verdict-by (book-verdict c (book cs)) c (book cs)
 
-refusals-same : (cs : Calls) → map verdict-of (answers cs) ≡ verdicts cs
-unfolding answers verdicts
-refusals-same none = refl
-refusals-same (cs then c) = ap₂ _∷_ (verdict-is cs c) (refusals-same cs)
-
-answers-same : (cs : Calls) → answers cs ≡ book-answers cs
-unfolding answers book-answers
-answers-same none = refl
-answers-same (cs then c) = ap₂ _∷_ (answer-is cs c) (answers-same cs)
-
 -- ---- the same figures
 
-stages-same : (cs : Calls) → (run cs .stage ≡ book cs .stage) × (run cs .allotted ≡ book cs .allotted)
-unfolding laid day-of
-stages-same cs = (ap (λ (d : PointDay). d .stage) (run-is cs), ap (λ (d : PointDay). d .allotted) (run-is cs))
-
-measurements-same : (cs : Calls) → run cs .measurement ≡ book cs .measurement
-unfolding laid day-of
-measurements-same cs = ap (λ (d : PointDay). d .measurement) (run-is cs)
-
--- what is the book's of each user
-figures-same : (cs : Calls) {A : Type 0} (f : User → A) (g : ℕ → A) → ((n : ℕ) → f (user-of (book cs) n) ≡ g n)
-    → map f (read (run cs) .users) ≡ map g (book cs .users)
-figures-same cs f g e = ap (λ (d : Day). map f (d .users)) (read-is cs) ∙ of-each (book cs) f g e
+holds-same : (cs : Calls) → Holds (run cs) (book cs)
+holds-same cs = subst⁻¹ (λ d. Holds d (book cs)) (run-is cs) (holds (book cs) (book-kept cs))
 
 -- ---- the lines of the stage
+
+-- the book's lines after a call that it does
+abbrev lines-after : Call → List Line → List Line
+lines-after c ls = by-call (λ n. ls) (λ l. l ∷ ls) (λ e w. ls) ls (λ rows. ls) ls [] c
 
 lines-of : (c : Call) (b : Book) → after c b .lines ≡ lines-after c (b .lines)
 unfolding joined with-line measured own.allotted stood-in assigned restarted
@@ -107,41 +99,28 @@ lines-same (cs then c) =
     lines-by (book-verdict c (book cs)) c (book cs)
     ∙ ap₂ (λ v ls. pick (accepts v) (lines-after c ls) ls) (sym (verdict-is cs c)) (lines-same cs)
 
--- ---- the whole amounts add up to the settled net
+-- ---- the sum
 
-pub whole-amounts-add-up : (cs : Calls) → run cs .allotted ≡ true → all-whole (read (run cs) .users) ≡ book cs .settled
-whole-amounts-add-up cs e =
-    ap (λ (d : Day). all-whole (d .users)) (read-is cs)
-    ∙ allotted (day-of (book cs)) (book cs .settled) (book-kept cs .good) (unfold day-of in sym (stages-same cs .1) ∙ e) .adds-up
+sum-is : (cs : Calls) → everything (run cs) ≡ all-whole (day-of (book cs) .users)
+sum-is cs = ap everything (run-is cs) ∙ everything-laid (day-of (book cs))
+
+settles : (cs : Calls) → run cs .allotted ≡ true → all-whole (day-of (book cs) .users) ≡ book cs .settled
+unfolding day-of
+settles cs e = allotted (day-of (book cs)) (book cs .settled) (book-kept cs .good) (sym (holds-same cs .allotted) ∙ e) .adds-up
 
 -- ---- the shares
 
-call-shared : (cs : Calls) (c : Call) → CallShared c (answer-after cs c) (book cs) (read (run (cs then c)))
+call-shared : (cs : Calls) (c : Call) → CallShared c (answer-after cs c) (book cs) (run (cs then c))
 unfolding book
 call-shared cs c =
     let b = book cs in
-    subst⁻¹ (λ a. CallShared c a b (read (run (cs then c)))) (answer-is cs c)
-    (subst⁻¹ (λ d. CallShared c (answer-by (book-verdict c b) c b) b d) (read-is (cs then c))
-    (shared-by b (book-kept cs) c (book-verdict c b) refl))
+    subst⁻¹ (λ a. CallShared c a b (run (cs then c))) (answer-is cs c)
+    (shared-by b (book-kept cs) c (book-verdict c b) refl (run (cs then c)) (holds-same (cs then c)))
 
 all-shared : (cs : Calls) → AllShared cs
 unfolding AllShared
 all-shared none = tt
 all-shared (cs then c) = (all-shared cs, call-shared cs c)
-
--- ---- what each call left
-
-all-left : (cs : Calls) → AllLeft cs
-unfolding AllLeft book
-all-left none = tt
-all-left (cs then c) = (all-left cs, call-left)
-  where
-    call-left : LeavesBy (answer-after cs c) c (read (run cs)) (read (run (cs then c)))
-    call-left =
-        subst⁻¹ (λ a. LeavesBy a c (read (run cs)) (read (run (cs then c)))) (answer-is cs c)
-        (subst⁻¹ (λ d. LeavesBy (answer-by (book-verdict c (book cs)) c (book cs)) c d (read (run (cs then c)))) (read-is cs)
-        (subst⁻¹ (λ d. LeavesBy (answer-by (book-verdict c (book cs)) c (book cs)) c (day-of (book cs)) d) (read-is (cs then c))
-        (left-by c (book-verdict c (book cs)) (book cs))))
 
 -- ---- after an accepted revise
 
@@ -150,7 +129,7 @@ accepts-is (refuse n) e = never e
 accepts-is accept e = refl
 
 abbrev Close : Day → Type 0
-Close d = natAbs (net d -ℤ all-whole (d .users)) ≤ TOLERANCE
+Close d = natAbs (day.net d -ℤ all-whole (d .users)) ≤ TOLERANCE
 
 close-revise : (b : Book) → Kept b → book-verdict revise b ≡ accept → Close (day-of (after revise b))
 close-revise b h v =
@@ -159,14 +138,15 @@ close-revise b h v =
     subst⁻¹ Close (agrees revise b h .days w)
     (revise-close (day-of b) (good-sound (day-of b) (b .settled) g) (λ e. allotted (day-of b) (b .settled) g e .some-user) TOLERANCE w)
 
-closes : (cs : Calls) → ends-revised cs ≡ true → Close (read (run cs))
+closes : (cs : Calls) → ends-revised cs ≡ true → Close (day-of (book cs))
 unfolding ends-revised
 closes none e = never e
 closes (cs then c) e =
-    subst⁻¹ Close (read-is (cs then c))
-    (go c (both-fst (is-revise c) _ e) (sym (verdict-is cs c) ∙ accepts-is _ (both-snd (is-revise c) _ e)))
+    let accepted = accepts (verdict-of (answer-after cs c)) in
+    go c (both-fst (is-revise c) accepted e) (sym (verdict-is cs c) ∙ accepts-is _ (both-snd (is-revise c) accepted e))
   where
-    go : (c : Call) → is-revise c ≡ true → book-verdict c (book cs) ≡ accept → Close (day-of (book (cs then c)))
+    go : (c : Call) → is-revise c ≡ true
+        → book-verdict c (book cs) ≡ accept → Close (day-of (book (cs then c)))
     go (join n) r v = never r
     go (line n kind c k) r v = never r
     go (lent-line n kind c k) r v = never r
@@ -176,27 +156,25 @@ closes (cs then c) e =
     go revise r v = unfold book in subst⁻¹ (λ v. Close (day-of (by-verdict v revise (book cs)))) v (close-revise (book cs) (book-kept cs) v)
     go start-final r v = never r
 
+close-is : (cs : Calls) → Close (day-of (book cs)) → natAbs (net-of (run cs .measurement) -ℤ everything (run cs)) ≤ TOLERANCE
+close-is cs h =
+    let b = book cs in
+    let net = ap net-of (holds-same cs .measurement) ∙ sym (net-day b (measured-right b (book-kept cs))) in
+    subst⁻¹ (λ z. natAbs z ≤ TOLERANCE) (ap₂ _-ℤ_ net (sum-is cs)) h
+
+-- ---- the claim
+
 pub demand-3 : (cs : Calls) → Demand3 cs
 demand-3 cs = record {
-  same-refusals = refusals-same cs;
   same-answers = answers-same cs;
-  same-stage = stages-same cs;
-  same-users = ap (λ (d : Day). numbers (d .users)) (read-is cs) ∙ numbers-is (book cs);
-  same-measurement = measurements-same cs;
-  same-consumption = figures-same cs (λ (u : User). u .consumption) _ (λ n. refl);
-  same-losses = figures-same cs (λ (u : User). u .losses) _ (λ n. refl);
-  same-balance = figures-same cs (λ (u : User). u .balance) _ (λ n. refl);
-  same-revision = figures-same cs (λ (u : User). u .revision) _ (λ n. refl);
-  same-day = run-is cs;
-  in-places = subst⁻¹ (λ d. Holds d (book cs)) (run-is cs) (holds (book cs) (book-kept cs));
+  holds-the-same = holds-same cs;
   of-lines = lines-same cs;
-  adds-up = whole-amounts-add-up cs;
+  adds-up = λ e. sum-is cs ∙ settles cs e;
   shares = all-shared cs;
-  leaves = all-left cs;
-  close = closes cs;
+  close = λ e. close-is cs (closes cs e);
 }
 
--- ---- what calls returned
+-- ---- the same of results
 
 chain-is : {cs : Calls} {ss : List Answer} {d : PointDay} → Chain cs ss d → (ss ≡ answers cs) × (d ≡ run cs)
 unfolding run answers
@@ -208,3 +186,28 @@ chain-is (goes-on r c e) =
 
 pub demand-3-of-results : {cs : Calls} {ss : List Answer} {d : PointDay} → Chain cs ss d → Returned cs ss d
 demand-3-of-results {cs} r = record { the-answers = chain-is r .0; the-day = chain-is r .1; demand = demand-3 cs }
+
+-- ---- laws beside it
+
+-- the book's refusals
+pub same-refusals : (cs : Calls) → map verdict-of (answers cs) ≡ verdicts cs
+unfolding answers verdicts
+same-refusals none = refl
+same-refusals (cs then c) = ap₂ _∷_ (verdict-is cs c) (same-refusals cs)
+
+-- the day that the point-day holds adds up to the settled net
+pub whole-amounts-add-up : (cs : Calls) → run cs .allotted ≡ true → all-whole (read (run cs) .users) ≡ book cs .settled
+whole-amounts-add-up cs e = ap (λ (d : Day). all-whole (d .users)) (read-is cs) ∙ settles cs e
+
+-- what each call left
+pub all-left : (cs : Calls) → AllLeft cs
+unfolding AllLeft book
+all-left none = tt
+all-left (cs then c) = (all-left cs, call-left)
+  where
+    call-left : LeavesBy (answer-after cs c) c (read (run cs)) (read (run (cs then c)))
+    call-left =
+        subst⁻¹ (λ a. LeavesBy a c (read (run cs)) (read (run (cs then c)))) (answer-is cs c)
+        (subst⁻¹ (λ d. LeavesBy (answer-by (book-verdict c (book cs)) c (book cs)) c d (read (run (cs then c)))) (read-is cs)
+        (subst⁻¹ (λ d. LeavesBy (answer-by (book-verdict c (book cs)) c (book cs)) c (day-of (book cs)) d) (read-is (cs then c))
+        (left-by c (book-verdict c (book cs)) (book cs))))

@@ -13,22 +13,48 @@ use Rattle.numbers.specs.Lists.{both, either, every, has, rising}
 use Rattle.numbers.specs.Nearest.{nearest}
 use Rattle.numbers.specs.Refusals.{Test, _when_, Verdict, refuse, accept, verdict}
 use Rattle.proration.specs.Proration.{prorateZ}
-use Rattle.point_day.specs.Limits.{USERS, LAST-NUMBER, KINDS, LIMIT, AMOUNT, COEFFICIENT, PARTS, ROWS, TOLERANCE}
-use Rattle.point_day.specs.Calls.{Pair}
+use Rattle.point_day.specs.Day.{Pair}
+use Rattle.point_day.specs.Answers.{Answer, refused, done, losses-added, rows-looked-at, within-tolerance, revision-assigned}
 use Rattle.point_day.specs.declared.Stage.{Stage}
 use Rattle.point_day.specs.declared.Stage.the-variants.{Provisional, FinalProvisional, FinalDefinitive}
 use Rattle.point_day.specs.declared.Measurement.{Measurement}
 use Rattle.point_day.specs.declared.Measurement.the-variants.{Unmeasured, Measured}
-use Rattle.day_book.specs.Run.{Call, join, line, lent-line, measure, allot, stand-in, revise, start-final, Calls, none, _then_}
+use Rattle.day_book.specs.Calls.{Call, join, line, lent-line, measure, allot, stand-in, revise, start-final, Calls, none, _then_}
+use Rattle.day_book.specs.Calls.{Line, a-line, by-call}
+
+-- ---- its numbers, apart from those of the calls
+
+-- "up to 64 users, numbered 1 to 65,535"
+abbrev pub USERS : ℕ
+USERS = 64
+
+abbrev pub LAST-NUMBER : ℕ
+LAST-NUMBER = 65535
+
+-- "consumption 0 to 1,000,000,000", emission likewise, and the limit of the sum
+abbrev pub LIMIT : ℕ
+LIMIT = 1000000000
+
+-- "loss coefficient 0 to 10,000 in parts of 100,000"
+abbrev pub COEFFICIENT : ℕ
+COEFFICIENT = 10000
+
+abbrev pub PARTS : ℕ
+PARTS = 100000
+
+-- "takes fifteen rows"
+abbrev pub ROWS : ℕ
+ROWS = 15
+
+-- "amount (−2,000,000,000 to 2,000,000,000)", and the limit of a whole amount
+abbrev pub AMOUNT : ℕ
+AMOUNT = 2000000000
+
+-- "R lies in −100 to 100", "net at most 100"
+abbrev pub TOLERANCE : ℕ
+TOLERANCE = 100
 
 -- ---- what the book holds
-
--- a line as it was accepted
-pub record Line : Type 0 where
-  pub user : ℕ
-  pub kind : ℕ
-  pub consumption : ℕ
-  pub coefficient : ℕ
 
 pub record Book : Type 0 where
   pub stage : Stage
@@ -63,7 +89,7 @@ fresh-book = page Provisional false Unmeasured [] [] (λ n kind. pos 0) (λ n. p
 
 -- ---- its figures
 
--- "five kinds", and the estimated ones among them
+-- "five kinds", and those whose consumption plus losses weigh first
 abbrev pub kinds : List ℕ
 kinds = 1 ∷ 2 ∷ 3 ∷ 4 ∷ 5 ∷ []
 
@@ -86,7 +112,7 @@ net b = net-of (b .measurement)
 abbrev pub losses-of : Line → ℕ
 losses-of l = nearest (l .consumption * l .coefficient) PARTS
 
--- consumption and losses "are those of the lines accepted in that stage": f of the lines of that user and kind, added up
+-- f of the lines of a user and kind, added up
 unfoldable pub added-up : (Line → ℕ) → ℕ → ℕ → List Line → ℕ
 added-up f n kind ls = total (map (λ l. pick (both (eqb (l .user) n) (eqb (l .kind) kind)) (f l) 0) ls)
 
@@ -132,9 +158,6 @@ unfoldable pub joined : ℕ → Book → Book
 joined n b = page (b .stage) (b .allotted) (b .measurement) (b .users ++ (n ∷ [])) (b .lines) (b .balance) (b .revision) (b .settled)
 
 -- ---- Line: "Adds the consumption, and as losses .."
-
-abbrev pub a-line : ℕ → ℕ → ℕ → ℕ → Line
-a-line n kind c k = record { user = n; kind = kind; consumption = c; coefficient = k }
 
 unfoldable pub with-line : Line → Book → Book
 with-line l b = page (b .stage) (b .allotted) (b .measurement) (b .users) (l ∷ b .lines) (b .balance) (b .revision) (b .settled)
@@ -301,11 +324,15 @@ pair-right p = both (is-user (p .user)) (liesZ (negℤ (pos AMOUNT)) (pos AMOUNT
 unfoldable pub row-in-range : List Pair → Bool
 row-in-range ps = both (lies 0 USERS (length ps)) (both (every pair-right ps) (rising (users-in ps)))
 
+-- "user, kind, consumption 0 to 1,000,000,000, loss coefficient 0 to 10,000"
+abbrev pub line-in-range : Line → Bool
+line-in-range l =
+    both (is-user (l .user)) (both (lies 1 5 (l .kind)) (both (lies 0 LIMIT (l .consumption)) (lies 0 COEFFICIENT (l .coefficient))))
+
 abbrev pub in-range : Call → Bool
 in-range (join n) = is-user n
--- "user, kind, consumption 0 to 1,000,000,000, loss coefficient 0 to 10,000"
-in-range (line n kind c k) = both (is-user n) (both (lies 1 KINDS kind) (both (lies 0 LIMIT c) (lies 0 COEFFICIENT k)))
-in-range (lent-line n kind c k) = both (is-user n) (both (lies 1 KINDS kind) (both (lies 0 LIMIT c) (lies 0 COEFFICIENT k)))
+in-range (line n kind c k) = line-in-range (a-line n kind c k)
+in-range (lent-line n kind c k) = line-in-range (a-line n kind c k)
 -- "emission and downstream emission, 0 to 1,000,000,000, downstream at most emission"
 in-range (measure emission downstream) = both (lies 0 LIMIT emission) (both (lies 0 LIMIT downstream) (leb downstream emission))
 in-range allot = true
@@ -316,56 +343,21 @@ in-range start-final = true
 
 -- ---- the table "Refusals"
 
--- a condition for one kind of call only
+-- a condition for one of the calls only
 abbrev pub on-join : Call → (ℕ → Bool) → Bool
-on-join (join n) p = p n
-on-join (line n kind c k) p = false
-on-join (lent-line n kind c k) p = false
-on-join (measure emission downstream) p = false
-on-join allot p = false
-on-join (stand-in rows) p = false
-on-join revise p = false
-on-join start-final p = false
+on-join c p = by-call p (λ l. false) (λ e w. false) false (λ rows. false) false false c
 
 abbrev pub on-line : Call → (Line → Bool) → Bool
-on-line (join n) p = false
-on-line (line n kind c k) p = p (a-line n kind c k)
-on-line (lent-line n kind c k) p = p (a-line n kind c k)
-on-line (measure emission downstream) p = false
-on-line allot p = false
-on-line (stand-in rows) p = false
-on-line revise p = false
-on-line start-final p = false
+on-line c p = by-call (λ n. false) p (λ e w. false) false (λ rows. false) false false c
 
 abbrev pub on-allot : Call → Bool → Bool
-on-allot (join n) p = false
-on-allot (line n kind c k) p = false
-on-allot (lent-line n kind c k) p = false
-on-allot (measure emission downstream) p = false
-on-allot allot p = p
-on-allot (stand-in rows) p = false
-on-allot revise p = false
-on-allot start-final p = false
+on-allot c p = by-call (λ n. false) (λ l. false) (λ e w. false) p (λ rows. false) false false c
 
 abbrev pub on-stand-in : Call → (List (List Pair) → Bool) → Bool
-on-stand-in (join n) p = false
-on-stand-in (line n kind c k) p = false
-on-stand-in (lent-line n kind c k) p = false
-on-stand-in (measure emission downstream) p = false
-on-stand-in allot p = false
-on-stand-in (stand-in rows) p = p rows
-on-stand-in revise p = false
-on-stand-in start-final p = false
+on-stand-in c p = by-call (λ n. false) (λ l. false) (λ e w. false) false p false false c
 
 abbrev pub on-revise : Call → Bool → Bool
-on-revise (join n) p = false
-on-revise (line n kind c k) p = false
-on-revise (lent-line n kind c k) p = false
-on-revise (measure emission downstream) p = false
-on-revise allot p = false
-on-revise (stand-in rows) p = false
-on-revise revise p = p
-on-revise start-final p = false
+on-revise c p = by-call (λ n. false) (λ l. false) (λ e w. false) false (λ rows. false) p false c
 
 abbrev pub no-user : Book → Bool
 no-user b = eqb (length (b .users)) 0
@@ -428,3 +420,28 @@ book (cs then c) = by-verdict (book-verdict c (book cs)) c (book cs)
 unfoldable pub verdicts : Calls → List Verdict
 verdicts none = []
 verdicts (cs then c) = book-verdict c (book cs) ∷ verdicts cs
+
+-- ---- what it would answer
+
+-- the values that document 01 names
+abbrev pub values : Call → Book → Answer
+values (join n) b = done
+-- "answers the losses added"
+values (line n kind c k) b = losses-added (losses-of (a-line n kind c k))
+values (lent-line n kind c k) b = losses-added (losses-of (a-line n kind c k))
+values (measure emission downstream) b = done
+values allot b = done
+-- "The number of rows looked at is in the result"
+values (stand-in rows) b = rows-looked-at (rows-looked rows)
+-- "R is returned with «within tolerance». Otherwise R is prorated .. and returned"
+values revise b = pick (tolerated b) (within-tolerance (R b)) (revision-assigned (R b))
+values start-final b = done
+
+abbrev pub answer-by : Verdict → Call → Book → Answer
+answer-by (refuse n) c b = refused n
+answer-by accept c b = values c b
+
+-- the last call's first
+unfoldable pub book-answers : Calls → List Answer
+book-answers none = []
+book-answers (cs then c) = answer-by (book-verdict c (book cs)) c (book cs) ∷ book-answers cs

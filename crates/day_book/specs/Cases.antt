@@ -14,7 +14,7 @@ use Rattle.day_book.specs.Book as own
 use Rattle.day_book.specs.Book.{Book, fresh-book, kinds, consumption, losses, added-up, whole, beside, part, joined, with-line}
 use Rattle.day_book.specs.Book.{measured, weighing, kind-weight, empty-before, used-row, rows-looked, stood-in, assigned, restarted}
 use Rattle.day_book.specs.Book.{row-in-range, refusals, book, verdicts}
-use Rattle.day_book.specs.Claim.{values}
+use Rattle.day_book.specs.Book.{values}
 
 -- the book after a list of calls; to unfold it is to compute it
 splits : Unit {0}

@@ -1,4 +1,5 @@
--- What a call leaves as it was, of the figures that the point-day holds before and after it. Assumes nothing.
+-- A law beside the claim: what each call of a list leaves as it was, of the figures that the point-day holds before and after it.
+-- Assumes nothing.
 use mathlib.Core.Path.{_≡_}
 use mathlib.Core.Bool.{Bool}
 use mathlib.Core.List.{List, map}
@@ -6,10 +7,12 @@ use Prim.Native.Nat.{ℕ}
 use lib.IntN.{ℤ}
 use lib.ListN.{length, take}
 use Rattle.point_day.specs.Day.{User, Day, numbers}
-use Rattle.point_day.specs.Calls.{Answer, refused, done, losses-added, rows-looked-at, within-tolerance, revision-assigned}
+use Rattle.point_day.specs.Answers.{Answer, refused, done, losses-added, rows-looked-at, within-tolerance, revision-assigned}
 use Rattle.point_day.specs.declared.Stage.{Stage}
 use Rattle.point_day.specs.declared.Measurement.{Measurement}
-use Rattle.day_book.specs.Run.{Call, join, line, lent-line, measure, allot, stand-in, revise, start-final}
+use Rattle.point_day.specs.Struct.{read}
+use Rattle.day_book.specs.Run.{Call, join, line, lent-line, measure, allot, stand-in, revise, start-final, Calls, none, _then_}
+use Rattle.day_book.specs.Run.{run, answer-after}
 
 -- ---- figures of a day
 
@@ -72,3 +75,7 @@ LeavesBy (losses-added l) c x y = Leaves c x y
 LeavesBy (rows-looked-at k) c x y = Leaves c x y
 LeavesBy (within-tolerance R) c x y = y ≡ x
 LeavesBy (revision-assigned R) c x y = Leaves c x y
+
+unfoldable pub AllLeft : Calls → Type 0
+AllLeft none = Unit {0}
+AllLeft (cs then c) = AllLeft cs × LeavesBy (answer-after cs c) c (read (run cs)) (read (run (cs then c)))

@@ -1,7 +1,9 @@
+pub mod Calls
 pub mod Run
 pub mod Book
-pub mod Shares
 pub mod Arrays
-pub mod Leaves
+pub mod Shares
 pub mod Claim
+pub mod Described
+pub mod Leaves
 pub mod Cases

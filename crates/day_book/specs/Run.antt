@@ -2,33 +2,18 @@
 use mathlib.Core.Bool.{Bool, true, false}
 use mathlib.Core.List.{List, [], _∷_}
 use mathlib.Core.Path.{_≡_}
-use Prim.Native.Nat.{ℕ}
+use Rattle.numbers.specs.Refusals.{Verdict, refuse, accept}
 use Rattle.point_day.specs.Limits.{TOLERANCE}
 use Rattle.point_day.specs.Day.{Day, fresh}
+use Rattle.point_day.specs.Answers.{Answer, refused, done, losses-added, rows-looked-at, within-tolerance, revision-assigned}
 use Rattle.point_day.specs.Calls as calls
-use Rattle.point_day.specs.Calls.{Answer, refused, done, losses-added, rows-looked-at, within-tolerance, revision-assigned, Move, Verdict}
-use Rattle.point_day.specs.Calls.{refuse, accept, Pair}
 use Rattle.point_day.specs.Struct.{laid, outcome, called}
 use Rattle.point_day.specs.declared.PointDay.{PointDay}
+pub use Rattle.day_book.specs.Calls.{Call, join, line, lent-line, measure, allot, stand-in, revise, start-final}
+pub use Rattle.day_book.specs.Calls.{Calls, none, _then_}
 
--- a call with its arguments; line in both forms
-pub data Call : Type 0 where
-  join : ℕ → Call
-  line lent-line : ℕ → ℕ → ℕ → ℕ → Call
-  measure : ℕ → ℕ → Call
-  allot : Call
-  stand-in : List (List Pair) → Call
-  revise : Call
-  start-final : Call
-
--- a list of calls, in their order
-pub data Calls : Type 0 where
-  none : Calls
-  _then_ : Calls → Call → Calls
-
-infixl 5 _then_
 -- what the contracts of the calls cite
-abbrev pub move : Call → Day → Move
+abbrev pub move : Call → Day → calls.Move
 move (join n) = calls.join n
 move (line n kind c k) = calls.line n kind c k
 move (lent-line n kind c k) = calls.line n kind c k

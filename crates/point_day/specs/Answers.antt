@@ -1,5 +1,6 @@
--- For each call's enum of answers, the number and values of document 01 that each case stands for. Assumes nothing.
-use Rattle.point_day.specs.Calls.{Answer, refused, done, losses-added, rows-looked-at, within-tolerance, revision-assigned}
+-- What a call answers, and for each call's enum of answers the number and values of document 01 that each case stands for. Assumes nothing.
+use Prim.Native.Nat.{ℕ}
+use lib.IntN.{ℤ}
 use Rattle.point_day.specs.declared.JoinAnswer.{JoinAnswer}
 use Rattle.point_day.specs.declared.JoinAnswer.the-variants as join
 use Rattle.point_day.specs.declared.LineAnswer.{LineAnswer}
@@ -14,6 +15,15 @@ use Rattle.point_day.specs.declared.ReviseAnswer.{ReviseAnswer}
 use Rattle.point_day.specs.declared.ReviseAnswer.the-variants as revise
 use Rattle.point_day.specs.declared.StartFinalAnswer.{StartFinalAnswer}
 use Rattle.point_day.specs.declared.StartFinalAnswer.the-variants as start-final
+
+-- the number of a refusal, or the values that document 01 names
+pub data Answer : Type 0 where
+  refused : ℕ → Answer
+  done : Answer
+  losses-added : ℕ → Answer
+  rows-looked-at : ℕ → Answer
+  within-tolerance : ℤ → Answer
+  revision-assigned : ℤ → Answer
 
 abbrev pub join-answer : JoinAnswer → Answer
 join-answer (join.Refused n) = refused n

@@ -16,17 +16,10 @@ use Rattle.proration.specs.Proration.{prorateZ}
 use Rattle.point_day.specs.Limits.{USERS, KINDS, LIMIT, AMOUNT, COEFFICIENT, PARTS, ROWS}
 use Rattle.point_day.specs.Day.{User, Day, empty-user, numbers, all-offtake, whole, all-whole, net, is-measured, some, no-more, is-number, emission-right, too-large, provisional, last-stage, next}
 use Rattle.point_day.specs.declared.Measurement.the-variants.{Measured}
+pub use Rattle.point_day.specs.Day.{Pair}
+pub use Rattle.point_day.specs.Answers.{Answer, refused, done, losses-added, rows-looked-at, within-tolerance, revision-assigned}
 
 -- ---- a call
-
--- what a call answers: the number of a refusal, or the values that document 01 names
-pub data Answer : Type 0 where
-  refused : ℕ → Answer
-  done : Answer
-  losses-added : ℕ → Answer
-  rows-looked-at : ℕ → Answer
-  within-tolerance : ℤ → Answer
-  revision-assigned : ℤ → Answer
 
 -- what a call does to a day, if no test refuses it
 pub record Move : Type 0 where
@@ -193,10 +186,6 @@ allot d = record {
 }
 
 -- ---- Stand-in (provisional entering, no user joined): fifteen rows, row i for the day i before
-
-pub record Pair : Type 0 where
-  pub user : ℕ
-  pub amount : ℤ
 
 abbrev pub users-of : List Pair → List ℕ
 users-of ps = map (λ (p : Pair). p .user) ps

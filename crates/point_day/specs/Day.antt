@@ -32,6 +32,11 @@ pub record Day : Type 0 where
 unfoldable pub fresh : Day
 fresh = record { stage = Provisional; allotted = false; measurement = Unmeasured; users = [] }
 
+-- a pair of a stand-in's row
+pub record Pair : Type 0 where
+  pub user : ℕ
+  pub amount : ℤ
+
 -- a user with no amounts
 abbrev pub empty-user : ℕ → User
 empty-user n = record {

@@ -1,6 +1,6 @@
 pub mod Limits
 pub mod Day
+pub mod Answers
 pub mod Calls
 pub mod Struct
-pub mod Answers
 pub mod Cases
