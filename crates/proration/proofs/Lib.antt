@@ -4,3 +4,4 @@ pub mod Shares
 pub mod Prorated
 pub mod Signs
 pub mod Fairness
+pub mod Only

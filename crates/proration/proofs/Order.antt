@@ -57,7 +57,7 @@ pub trans : (r k r′ k′ r″ k″ : ℕ) → ahead r k r′ k′ ≡ true →
 trans r k r′ k′ r″ k″ e f =
     go-ahead r k r″ k″ (both r k r′ k′ r″ k″ (is-ahead r k r′ k′ e) (is-ahead r′ k′ r″ k″ f))
 
-three : (a b : ℕ) → (a < b) ⊎ ((a ≡ b) ⊎ (b < a))
+pub three : (a b : ℕ) → (a < b) ⊎ ((a ≡ b) ⊎ (b < a))
 three a b = ⊎-elim (λ l. inl l) (λ l. ⊎-elim (λ m. inr (inr m)) (λ m. inr (inl (omega arith))) (lt-or-ge b a)) (lt-or-ge a b)
 
 pub tot : (r k r′ k′ : ℕ) → (k ≡ k′ → ⊥) → (ahead r k r′ k′ ≡ true) ⊎ (ahead r′ k′ r k ≡ true)
