@@ -10,10 +10,9 @@ use lib.ListN.{length, getD, length-append, length-map, length-set}
 use borrow.Author.Tests.{leb-true, leb-false, ltb-false, eqb-true, eqb-false, ne-eqb, not-false, not-true}
 use Rattle.numbers.specs.Sums.{pick, total, totalZ}
 use Rattle.numbers.specs.Lists.{both, every, has, distinct}
-use Rattle.numbers.specs.Nearest.{nearest}
 use Rattle.numbers.proofs.Sums.{total-append, total-set}
 use Rattle.numbers.proofs.Lists.{All, both-fst, both-snd, either-fst, either-snd, all-map, all-append, map-append, map-map, map-eq, distinct-append}
-use Rattle.point_day.specs.Limits.{USERS, LAST-NUMBER, KINDS, LIMIT, COEFFICIENT, PARTS}
+use Rattle.point_day.specs.Limits.{LAST-NUMBER, KINDS, LIMIT, COEFFICIENT}
 use Rattle.point_day.specs.Day.{User, Day, empty-user, numbers, offtake, all-offtake, is-number, emission-right}
 use Rattle.point_day.specs.Calls.{accept, verdict, join, cell-step, user-line, for-user, line-right, line, measure, cleared, start-final}
 use Rattle.point_day.specs.declared.Measurement.the-variants.{Measured}
@@ -44,7 +43,7 @@ join-good n d s g v =
     let p = accepted (join n d .tests) v in
     let named = not-false (is-number n) (p .1 .0) in
     bare-good (join n d .after) s (p .0)
-    (rw (length-append (d .users) (empty-user n ∷ [])) (omega (arith, leb-false USERS (length (d .users)) (p .1 .1 .1 .0))))
+    (rw (length-append (d .users) (empty-user n ∷ [])) (let room = p .1 .1 .1 .0 in omega (arith, leb-false)))
     (rw (map-append (λ (u : User). u .number) (d .users) (empty-user n ∷ [])) (distinct-append n (numbers (d .users)) (g .apart) (p .1 .1 .0)))
     (g .measurement)
     (all-append Formed (d .users) (empty-user n ∷ []) (g .formed) (empty-formed n (both-fst (leb 1 n) (leb n LAST-NUMBER) named), tt))
@@ -99,7 +98,7 @@ module _ (n : ℕ) (f : User → User) where
 
 -- the losses that a line adds, whatever the cell
 abbrev pub losses-of : ℕ → ℕ → ℕ
-losses-of c k = nearest (c * k) PARTS
+losses-of c k = cell-step c k (record { consumption = 0; losses = 0 }) .added
 
 module _ (kind c k : ℕ) (range : both (leb 1 kind) (leb kind KINDS) ≡ true) where
   line-full : (u : User) → Full u → Full (user-line kind c k u)
@@ -174,7 +173,7 @@ start-final-good d s g v =
     bare-good (start-final d .after) s refl
     (omega (arith, length-map (d .users) cleared, g .few))
     (rw (map-map (λ (u : User). u .number) cleared (d .users)) (g .apart))
-    (g .measurement)
+    (let right = g .measurement in cc)
     (formed (d .users) (g .formed))
     (bare (d .users))
     (omega (arith, none-cleared (d .users)))
