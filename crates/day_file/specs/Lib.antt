@@ -1,4 +1,4 @@
 pub mod File
 pub mod Report
 pub mod Text
-pub mod Example
+pub mod Cases

@@ -1,2 +1,2 @@
 pub mod Telemetered
-pub mod Examples
+pub mod Cases

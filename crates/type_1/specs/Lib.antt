@@ -1,2 +1,1 @@
 pub mod Type1
-pub mod Examples
