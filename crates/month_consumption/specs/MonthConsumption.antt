@@ -14,14 +14,14 @@ use Rattle.month_consumption.specs.declared.Basis.the-variants.{NoBasis,
 abbrev pub YEAR : ℕ
 YEAR = 12
 
--- toll 3.4: "the same month last year, times C_temp1; if missing, the last month, uncorrected; if missing, Q_a / 12"
+-- "the same month last year, .. (toll 3.4: times C_temp1); if missing, the last month, uncorrected; if missing, Q_a / 12 (toll 3.4)"
 unfoldable pub month-34 : Amount → Fraction → Amount → Amount → Basis
 month-34 (Known v) c last q = OfMonth (times v c)
 month-34 Missing c (Known v) q = OfMonth (v over 1)
 month-34 Missing c Missing (Known q) = OfMonth (q over YEAR)
 month-34 Missing c Missing Missing = NoBasis
 
--- other tolls: "the same month last year, times C_c; if missing, the last month, uncorrected; if missing, Q_d × f_c × N"
+-- other tolls: "the same month last year, times C_c ..; if missing, the last month, uncorrected; if missing, .. Q_d × f_c × N"
 unfoldable pub month-other : Amount → ℕ → Amount → Amount → ℕ → ℕ → Basis
 month-other (Known v) c last q f n = OfMonth (v * c over TEN-THOUSAND)
 month-other Missing c (Known v) q f n = OfMonth (v over 1)

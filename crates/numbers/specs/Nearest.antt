@@ -1,4 +1,4 @@
--- Document 01, first paragraph: "nearest means rounded to a whole number, halves up". Assumes nothing.
+-- Document 01, first paragraph: nearest means "rounded to a whole number, halves up". Assumes nothing.
 use mathlib.Core.Path.{_≡_, refl}
 use Prim.Native.Nat.{ℕ, _+_, _*_, _/_, _≤_, _<_}
 

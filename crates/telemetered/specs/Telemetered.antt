@@ -71,7 +71,7 @@ unfoldable pub values-right : ℕ → List ℕ → Amount → OwnValue → Flows
 values-right d hs reading own f =
     both (calendar-right d hs) (both (amount-right reading) (both (own-right own) (flows-right f)))
 
--- "The reading if there is one; else the user's own value if sent; else the mean of the last three real readings on days
+-- "The reading if there is one; else the user's own value if sent ..; else the mean of the last three real readings on days
 -- of the gas day's type; else, for a new consumer, Q_a / 210 (toll 3.4) or Q_d × f_c"
 unfoldable pub telemetered : ℕ → List ℕ → Amount → OwnValue → Flows → ℕ → List Entry → Answer Estimate
 telemetered d hs reading own f n es =

@@ -23,7 +23,7 @@ MOST-DIGITS = 20
 unfoldable pub natural : ℕ → List ℕ
 natural n = digits-of (MOST-DIGITS - 1) n
 
--- "with a leading `-` where negative"
+-- with a leading `-` where negative
 unfoldable pub decimal : ℤ → List ℕ
 decimal (pos n) = natural n
 decimal (negsuc n) = 45 ∷ natural (suc n)
