@@ -1,13 +1,13 @@
 ghost use mathlib.Core.Path.{_≡_};
 ghost use mathlib.Core.Bool.{true};
 ghost use Rattle.point_day.specs.Calls.{refused, allot};
-ghost use Rattle.point_day.specs.Answers.{allot-answer};
+ghost use Rattle.point_day.specs.Answers.{answer-of};
 ghost use Rattle.point_day.specs.Struct.{Sized, taken, outcome, called};
 ghost use Rattle.allotment.specs.Allotted.{with-balances};
-use point_day::AllotAnswer;
-use point_day::AllotResult;
+use point_day::Answer;
 use point_day::CELLS;
 use point_day::Measurement;
+use point_day::Outcome;
 use point_day::PointDay;
 
 // The point-day allotted, with these balances.
@@ -21,49 +21,40 @@ fn put_balances(day: PointDay, balance: [i64; CELLS]) -> PointDay
     }
 }
 
-fn refuse(number: u8, day: PointDay) -> AllotResult
-    ensures { λ r. ⌜ outcome (allot-answer (r .answer)) (r .day) ≡ outcome (refused number) day ⌝ }
-{
-    AllotResult {
-        answer: AllotAnswer::Refused(number),
-        day: day,
-    }
-}
-
 // Allot, on a point-day that is known to be taken.
-pub fn allot_taken(day: PointDay) -> AllotResult
+pub fn allot_taken(day: PointDay) -> Outcome
     requires { ⌜ (taken day ≡ true) × Sized day ⌝ }
-    ensures { λ r. ⌜ outcome (allot-answer (r .answer)) (r .day) ≡ called allot day ⌝ }
+    ensures { λ r. ⌜ outcome (answer-of (r .answer)) (r .day) ≡ called allot day ⌝ }
 {
     if day.allotted {
-        return refuse(1, day);
+        return point_day::refuse(1, day);
     }
     let measurement = day.measurement;
     let Measurement::Measured(emission, downstream) = measurement else {
-        return refuse(7, day);
+        return point_day::refuse(7, day);
     };
     let n = day.count;
     if n == 0 {
-        return refuse(8, day);
+        return point_day::refuse(8, day);
     }
     let net = emission - downstream;
     let balance = balance::balance_cells(net, &day.consumption, &day.losses, &day.users, n);
     let next = put_balances(day, balance);
     if taken::any_too_large(next) {
-        return refuse(12, day);
+        return point_day::refuse(12, day);
     }
-    AllotResult {
-        answer: AllotAnswer::Done,
+    Outcome {
+        answer: Answer::Done,
         day: next,
     }
 }
 
 // Allot: the balance over users and their kinds; the stage is then allotted.
-pub fn allot(day: PointDay) -> AllotResult
-    ensures { λ r. ⌜ outcome (allot-answer (r .answer)) (r .day) ≡ called allot day ⌝ }
+pub fn allot(day: PointDay) -> Outcome
+    ensures { λ r. ⌜ outcome (answer-of (r .answer)) (r .day) ≡ called allot day ⌝ }
 {
     if !taken::is_taken(day) {
-        return refuse(2, day);
+        return point_day::refuse(2, day);
     }
     allot_taken(day)
 }

@@ -6,10 +6,8 @@ ghost use Rattle.numbers.specs.Amounts.{Within, Decides};
 ghost use Rattle.point_day.specs.Limits.{USERS};
 ghost use Rattle.amount_ranges.specs.Ranges.{Cells, Arrays, Wholes};
 use point_day::AMOUNT;
-use point_day::CELLS;
 use point_day::KINDS;
 use point_day::LIMIT;
-use point_day::USERS;
 
 // The greatest sum, and the least and the greatest balance, revision or whole amount.
 const SUM: i64 = LIMIT as i64;
@@ -30,10 +28,10 @@ fn cells_right(xs: &[i64], past: usize, low: i64, high: i64) -> bool
 
 // Whether the arrays of n users are in range, and nothing stands past the last user.
 pub fn arrays_right<'a>(
-    consumption: &'a [i64; CELLS],
-    losses: &'a [i64; CELLS],
-    balance: &'a [i64; CELLS],
-    revision: &'a [i64; USERS],
+    consumption: &'a [i64],
+    losses: &'a [i64],
+    balance: &'a [i64],
+    revision: &'a [i64],
     n: usize,
 ) -> bool
     requires { ⌜ n ≤ USERS ⌝ }

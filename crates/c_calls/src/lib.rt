@@ -4,25 +4,21 @@ ghost use Prim.Native.Nat.{_*_, _<_};
 ghost use lib.IntN.{pos};
 ghost use lib.ListN.{length, set, replicate};
 ghost use Rattle.point_day.specs.Limits.{USERS, ROWS, TOLERANCE};
+ghost use Rattle.point_day.specs.Answers.{answer-of};
 ghost use Rattle.point_day.specs.Calls.{join, line, measure, allot, revise, start-final};
 ghost use Rattle.point_day.specs.Struct.{read, called};
 ghost use Rattle.stand_in_rows.specs.Rows.{rows};
 ghost use Rattle.inventory.specs.Inventory.{Afterwards};
-ghost use Rattle.plain_day.specs.Layout.{day-in};
-ghost use Rattle.plain_calls.specs.Plain.{plain, plain-call, plain-fresh, rows-laid-out, misfits, rows-in, plain-stand-in};
+ghost use Rattle.plain_day.specs.Layout.{LENGTH, day-in};
+ghost use Rattle.plain_calls.specs.Plain.{plain, given, plain-call, plain-fresh, rows-laid-out, misfits, rows-in, plain-stand-in};
 ghost use Rattle.plain_calls.specs.Listing.{plain-inventory, answer-number, counted};
 use inventory::InventoryAnswer;
 use plain_day::LENGTH;
-use point_day::AllotAnswer;
-use point_day::JoinAnswer;
-use point_day::LineAnswer;
-use point_day::MeasureAnswer;
+use point_day::Answer;
+use point_day::Outcome;
 use point_day::PAIRS;
 use point_day::ROWS;
-use point_day::ReviseAnswer;
-use point_day::StandInAnswer;
 use point_day::StandInRows;
-use point_day::StartFinalAnswer;
 use point_day::USERS;
 
 // The row of the table of refusals for numbers that no point-day is read from.
@@ -123,6 +119,27 @@ fn rows_in(counts: &[usize], users: &[u16], amounts: &[i64]) -> StandInRows
 
 // ---- The calls: each answers 0, or document 01's number of the refusal, and then writes nothing
 
+// An outcome on lent numbers: a refusal writes nothing; an accepted call its value and the point-day afterwards.
+fn settle(day: &mut [i64], r: Outcome) -> u8
+    requires { ⌜ length (now day) ≡ LENGTH ⌝ }
+    ensures { λ s. ⌜ plain s (now (day .exit)) ≡ given (answer-of (r .answer)) (r .day) (now (day .entry)) ⌝ }
+{
+    let answer = r.answer;
+    let after = r.day;
+    match answer {
+        Answer::Refused(number) => number,
+        Answer::Done => day_to_numbers::write(day, 0, after),
+        Answer::LossesAdded(added) => day_to_numbers::write(day, wire::to_signed(added), after),
+        Answer::RowsLookedAt(seen) => day_to_numbers::write(
+            day,
+            wire::to_signed(seen as u64),
+            after,
+        ),
+        Answer::WithinTolerance(amount) => day_to_numbers::write(day, amount, after),
+        Answer::RevisionAssigned(amount) => day_to_numbers::write(day, amount, after),
+    }
+}
+
 // A fresh point-day.
 #[no_mangle]
 pub extern "C" fn seatpomelo_fresh(day: &mut [i64]) -> u8
@@ -143,12 +160,7 @@ pub extern "C" fn seatpomelo_join(day: &mut [i64], user: u16) -> u8
         return OUT_OF_RANGE;
     }
     let r = entry::join(numbers_to_day::day_in(day), user);
-    let answer = r.answer;
-    let after = r.day;
-    match answer {
-        JoinAnswer::Refused(number) => number,
-        JoinAnswer::Done => day_to_numbers::write(day, 0, after),
-    }
+    settle(day, r)
 }
 
 // Line; its value is the losses added.
@@ -172,12 +184,7 @@ pub extern "C" fn seatpomelo_line(
         consumption,
         coefficient,
     );
-    let answer = r.answer;
-    let after = r.day;
-    match answer {
-        LineAnswer::Refused(number) => number,
-        LineAnswer::LossesAdded(added) => day_to_numbers::write(day, wire::to_signed(added), after),
-    }
+    settle(day, r)
 }
 
 // Measure.
@@ -189,12 +196,7 @@ pub extern "C" fn seatpomelo_measure(day: &mut [i64], emission: u64, downstream:
         return OUT_OF_RANGE;
     }
     let r = measurement::measure(numbers_to_day::day_in(day), emission, downstream);
-    let answer = r.answer;
-    let after = r.day;
-    match answer {
-        MeasureAnswer::Refused(number) => number,
-        MeasureAnswer::Done => day_to_numbers::write(day, 0, after),
-    }
+    settle(day, r)
 }
 
 // Allot.
@@ -206,12 +208,7 @@ pub extern "C" fn seatpomelo_allot(day: &mut [i64]) -> u8
         return OUT_OF_RANGE;
     }
     let r = allotment::allot(numbers_to_day::day_in(day));
-    let answer = r.answer;
-    let after = r.day;
-    match answer {
-        AllotAnswer::Refused(number) => number,
-        AllotAnswer::Done => day_to_numbers::write(day, 0, after),
-    }
+    settle(day, r)
 }
 
 // Revise; its value is R.
@@ -223,13 +220,7 @@ pub extern "C" fn seatpomelo_revise(day: &mut [i64]) -> u8
         return OUT_OF_RANGE;
     }
     let r = revision::revise(numbers_to_day::day_in(day));
-    let answer = r.answer;
-    let after = r.day;
-    match answer {
-        ReviseAnswer::Refused(number) => number,
-        ReviseAnswer::WithinTolerance(amount) => day_to_numbers::write(day, amount, after),
-        ReviseAnswer::Assigned(amount) => day_to_numbers::write(day, amount, after),
-    }
+    settle(day, r)
 }
 
 // Start-final.
@@ -241,12 +232,7 @@ pub extern "C" fn seatpomelo_start_final(day: &mut [i64]) -> u8
         return OUT_OF_RANGE;
     }
     let r = final_stage::start_final(numbers_to_day::day_in(day));
-    let answer = r.answer;
-    let after = r.day;
-    match answer {
-        StartFinalAnswer::Refused(number) => number,
-        StartFinalAnswer::Done => day_to_numbers::write(day, 0, after),
-    }
+    settle(day, r)
 }
 
 // Stand-in, with its rows in three lists; its value is the rows looked at.
@@ -264,16 +250,7 @@ pub extern "C" fn seatpomelo_stand_in(
     }
     let rows = rows_in(counts, users, amounts);
     let r = stand_in::stand_in(numbers_to_day::day_in(day), rows);
-    let answer = r.answer;
-    let after = r.day;
-    match answer {
-        StandInAnswer::Refused(number) => number,
-        StandInAnswer::RowsLookedAt(seen) => day_to_numbers::write(
-            day,
-            wire::to_signed(seen as u64),
-            after,
-        ),
-    }
+    settle(day, r)
 }
 
 // An accepted call that changes no point-day: its value alone is written. The answer is 0.

@@ -54,9 +54,9 @@ unfolding unjoined entering laid padded flat fresh
 fresh-remeasured m = refl
 
 module _ (e w g : ℕ) (rest : List Call) where
-  measure-refused : emission-right e w ≡ false → in-order g (measure e w ∷ rest) (laid fresh) ≡ refused 2
+  refuse : emission-right e w ≡ false → in-order g (measure e w ∷ rest) (laid fresh) ≡ refused 2
   unfolding laid fresh
-  measure-refused r = step g (measure e w) rest (laid fresh) (measure-2 e w (laid fresh) fresh-sized fresh-taken refl r)
+  refuse r = step g (measure e w) rest (laid fresh) (measure-2 e w (laid fresh) fresh-sized fresh-taken refl r)
 
   measure-leads : emission-right e w ≡ true → in-order g (measure e w ∷ rest) (laid fresh) ≡ in-order g rest (unjoined (Measured e w))
   unfolding laid fresh
@@ -80,7 +80,7 @@ module _ (f : List ℕ) where
       by-calls = rw (e, sym p, le-leb g LAST-DAY l, q, r)
 
       pub unmeasured : emission-right b w ≡ false → refused 2 ≡ report f
-      unmeasured h = sym (by-calls ∙ measure-refused b w g (flat (map (section-calls f) (sections f)) ++ (allot ∷ [])) h)
+      unmeasured h = sym (by-calls ∙ refuse b w g (flat (map (section-calls f) (sections f)) ++ (allot ∷ [])) h)
 
       pub measured : emission-right b w ≡ true → entered-and-allotted f g (Measured b w) ≡ report f
       measured h = sym (by-calls ∙ measure-leads b w g (flat (map (section-calls f) (sections f)) ++ (allot ∷ [])) h)

@@ -8,20 +8,13 @@ use denote.Ref.{now}
 use denote.Triple.Clauses.{AtExit}
 use contract.Monad.{fact}
 use borrow.Fn.World.{World, ArgsD}
-use Rattle.point_day.specs.Answers.{Answer, join-answer, line-answer, measure-answer, allot-answer, stand-in-answer, revise-answer}
-use Rattle.point_day.specs.Answers.{start-final-answer}
+use Rattle.point_day.specs.Answers.{Answer, answer-of}
 use Rattle.point_day.specs.Calls as calls
 use Rattle.point_day.specs.Struct.{outcome, called, rows-of}
 use Rattle.point_day.specs.declared.PointDay.{PointDay}
 use Rattle.point_day.specs.declared.StandInRows.{StandInRows}
-use Rattle.point_day.specs.declared.JoinResult.{JoinResult}
-use Rattle.point_day.specs.declared.LineResult.{LineResult}
-use Rattle.point_day.specs.declared.LineAnswer.{LineAnswer}
-use Rattle.point_day.specs.declared.MeasureResult.{MeasureResult}
-use Rattle.point_day.specs.declared.AllotResult.{AllotResult}
-use Rattle.point_day.specs.declared.StandInResult.{StandInResult}
-use Rattle.point_day.specs.declared.ReviseResult.{ReviseResult}
-use Rattle.point_day.specs.declared.StartFinalResult.{StartFinalResult}
+use Rattle.point_day.specs.declared.Answer as code
+use Rattle.point_day.specs.declared.Outcome.{Outcome}
 use Rattle.point_day.proofs.fresh_day.Reads as fresh
 use Rattle.entry.proofs.join.Reads as joined
 use Rattle.lines.proofs.line.Reads as lined
@@ -39,33 +32,33 @@ use Rattle.day_book.specs.Calls.{Calls, none, _then_}
 abbrev pub Fresh : PointDay → Type 0
 Fresh d = fresh.Learnt tt tt d tt
 
-abbrev pub Joined : PointDay → ℕ → JoinResult → Type 0
+abbrev pub Joined : PointDay → ℕ → Outcome → Type 0
 Joined d user r = joined.Learnt tt (d, (user, tt)) r (d, (user, tt))
 
-abbrev pub Lined : PointDay → ℕ → ℕ → ℕ → ℕ → LineResult → Type 0
+abbrev pub Lined : PointDay → ℕ → ℕ → ℕ → ℕ → Outcome → Type 0
 Lined d user kind c k r = lined.Learnt tt (d, (user, (kind, (c, (k, tt))))) r (d, (user, (kind, (c, (k, tt)))))
 
-abbrev pub Measured : PointDay → ℕ → ℕ → MeasureResult → Type 0
+abbrev pub Measured : PointDay → ℕ → ℕ → Outcome → Type 0
 Measured d emission downstream r = measured.Learnt tt (d, (emission, (downstream, tt))) r (d, (emission, (downstream, tt)))
 
-abbrev pub Allotted : PointDay → AllotResult → Type 0
+abbrev pub Allotted : PointDay → Outcome → Type 0
 Allotted d r = allotted.Learnt tt (d, tt) r (d, tt)
 
-abbrev pub StoodIn : PointDay → StandInRows → StandInResult → Type 0
+abbrev pub StoodIn : PointDay → StandInRows → Outcome → Type 0
 StoodIn d rows r = stood-in.Learnt tt (d, (rows, tt)) r (d, (rows, tt))
 
-abbrev pub Revised : PointDay → ReviseResult → Type 0
+abbrev pub Revised : PointDay → Outcome → Type 0
 Revised d r = revised.Learnt tt (d, tt) r (d, tt)
 
-abbrev pub Restarted : PointDay → StartFinalResult → Type 0
+abbrev pub Restarted : PointDay → Outcome → Type 0
 Restarted d r = restarted.Learnt tt (d, tt) r (d, tt)
 
 -- `line_lent` takes a reference to a struct, of whose contract the toolchain makes no reading: of the lent point-day before and after,
-abbrev pub Lent : PointDay → ℕ → ℕ → ℕ → ℕ → LineAnswer → PointDay → Type 0
-Lent before user kind c k r after = outcome (line-answer r) after ≡ called (calls.line user kind c k) before
+abbrev pub Lent : PointDay → ℕ → ℕ → ℕ → ℕ → code.Answer → PointDay → Type 0
+Lent before user kind c k r after = outcome (answer-of r) after ≡ called (calls.line user kind c k) before
 
 -- and that is its `ensures` in every model of the program logic, with the arguments a and, at exit, s
-lent-ensures : (w : World) (κs : Lfts 1) (a : ArgsD lent.signature κs) (r : LineAnswer) (s : AtExit lent.ended κs)
+lent-ensures : (w : World) (κs : Lfts 1) (a : ArgsD lent.signature κs) (r : code.Answer) (s : AtExit lent.ended κs)
     → lent.clauses (w .𝓤) (w .H) (w .𝓖 .A) (w .𝓜 .mem) (w .𝓡 .run) κs a .ensures tt r s
     ≡ fact (w .𝓤) (Lent (now (a .0)) (a .1 .0) (a .1 .1 .0) (a .1 .1 .1 .0) (a .1 .1 .1 .1 .0) r (now (s .0)))
 lent-ensures w κs a r s = refl
@@ -76,19 +69,19 @@ lent-ensures w κs a r s = refl
 -- of the one before, and its result is as its contract says
 pub data Results : Calls → List Answer → PointDay → Type 0 where
   fresh-day : {d : PointDay} → Fresh d → Results none [] d
-  join : {cs : Calls} {ss : List Answer} {d : PointDay} → Results cs ss d → (user : ℕ) (r : JoinResult) → Joined d user r
-      → Results (cs then call.join user) (join-answer (r .answer) ∷ ss) (r .day)
-  line : {cs : Calls} {ss : List Answer} {d : PointDay} → Results cs ss d → (user kind c k : ℕ) (r : LineResult) → Lined d user kind c k r
-      → Results (cs then call.line user kind c k) (line-answer (r .answer) ∷ ss) (r .day)
-  line-lent : {cs : Calls} {ss : List Answer} {d d′ : PointDay} → Results cs ss d → (user kind c k : ℕ) (r : LineAnswer)
-      → Lent d user kind c k r d′ → Results (cs then call.lent-line user kind c k) (line-answer r ∷ ss) d′
-  measure : {cs : Calls} {ss : List Answer} {d : PointDay} → Results cs ss d → (emission downstream : ℕ) (r : MeasureResult)
-      → Measured d emission downstream r → Results (cs then call.measure emission downstream) (measure-answer (r .answer) ∷ ss) (r .day)
-  allot : {cs : Calls} {ss : List Answer} {d : PointDay} → Results cs ss d → (r : AllotResult) → Allotted d r
-      → Results (cs then call.allot) (allot-answer (r .answer) ∷ ss) (r .day)
-  stand-in : {cs : Calls} {ss : List Answer} {d : PointDay} → Results cs ss d → (rows : StandInRows) (r : StandInResult) → StoodIn d rows r
-      → Results (cs then call.stand-in (rows-of rows)) (stand-in-answer (r .answer) ∷ ss) (r .day)
-  revise : {cs : Calls} {ss : List Answer} {d : PointDay} → Results cs ss d → (r : ReviseResult) → Revised d r
-      → Results (cs then call.revise) (revise-answer (r .answer) ∷ ss) (r .day)
-  start-final : {cs : Calls} {ss : List Answer} {d : PointDay} → Results cs ss d → (r : StartFinalResult) → Restarted d r
-      → Results (cs then call.start-final) (start-final-answer (r .answer) ∷ ss) (r .day)
+  join : {cs : Calls} {ss : List Answer} {d : PointDay} → Results cs ss d → (user : ℕ) (r : Outcome) → Joined d user r
+      → Results (cs then call.join user) (answer-of (r .answer) ∷ ss) (r .day)
+  line : {cs : Calls} {ss : List Answer} {d : PointDay} → Results cs ss d → (user kind c k : ℕ) (r : Outcome) → Lined d user kind c k r
+      → Results (cs then call.line user kind c k) (answer-of (r .answer) ∷ ss) (r .day)
+  line-lent : {cs : Calls} {ss : List Answer} {d d′ : PointDay} → Results cs ss d → (user kind c k : ℕ) (r : code.Answer)
+      → Lent d user kind c k r d′ → Results (cs then call.lent-line user kind c k) (answer-of r ∷ ss) d′
+  measure : {cs : Calls} {ss : List Answer} {d : PointDay} → Results cs ss d → (emission downstream : ℕ) (r : Outcome)
+      → Measured d emission downstream r → Results (cs then call.measure emission downstream) (answer-of (r .answer) ∷ ss) (r .day)
+  allot : {cs : Calls} {ss : List Answer} {d : PointDay} → Results cs ss d → (r : Outcome) → Allotted d r
+      → Results (cs then call.allot) (answer-of (r .answer) ∷ ss) (r .day)
+  stand-in : {cs : Calls} {ss : List Answer} {d : PointDay} → Results cs ss d → (rows : StandInRows) (r : Outcome) → StoodIn d rows r
+      → Results (cs then call.stand-in (rows-of rows)) (answer-of (r .answer) ∷ ss) (r .day)
+  revise : {cs : Calls} {ss : List Answer} {d : PointDay} → Results cs ss d → (r : Outcome) → Revised d r
+      → Results (cs then call.revise) (answer-of (r .answer) ∷ ss) (r .day)
+  start-final : {cs : Calls} {ss : List Answer} {d : PointDay} → Results cs ss d → (r : Outcome) → Restarted d r
+      → Results (cs then call.start-final) (answer-of (r .answer) ∷ ss) (r .day)

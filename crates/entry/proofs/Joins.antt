@@ -2,7 +2,7 @@
 use mathlib.Core.Path.{_≡_, refl, sym, ap, _∙_}
 use mathlib.Core.Bool.{true, false, not}
 use mathlib.Core.List.{List, [], _∷_, _++_, map}
-use Prim.Native.Nat.{ℕ, _≤_, _<_}
+use Prim.Native.Nat.{ℕ, suc, _≤_, _<_}
 use native.Mathlib.Omega.{arith}
 use lib.Dec.{leb}
 use lib.IntN.{pos}
@@ -19,7 +19,7 @@ use Rattle.point_day.proofs.Taken.{taken-facts}
 use Rattle.point_day.proofs.Arrays.{Full, length-flat}
 use Rattle.point_day.proofs.Back.{flat-snoc, read-full, read-count, read-numbers, laid-read}
 use Rattle.point_day.proofs.Called.{called-refused, called-accepted, test-holds, test-passed, none-left}
-use Rattle.entry.specs.Appended.{appended}
+use Rattle.entry.specs.Appended.{appended, Joins, Tested}
 use Rattle.point_day.proofs.Padding.{padded-snoc, padded-same}
 
 -- ---- the day after join
@@ -102,3 +102,11 @@ module _ (n : ℕ) (d : PointDay) (z : Sized d) (ok : taken d ≡ true) where
           ap (λ (x : PointDay). outcome done x) (q ∙ join-after k)
           ∙ called-accepted (join n) d ok
           (join-tests ∙ test-passed 1 (d .allotted) _ e (test-passed 2 (not (is-number n)) _ named (test-passed 4 (has n (take (d .count) (d .users))) _ f (test-passed 5 (leb USERS (d .count)) [] (lt-leb USERS (d .count) k) none-left))))
+
+-- ---- the code's tests
+
+pub fails : (n : ℕ) (d : PointDay) (r : ℕ) → outcome (refused (suc r)) d ≡ called (join n) d → Tested n d (suc r)
+fails n d r o = record { passed = λ e. absurd (omega arith); failed = λ h. o }
+
+pub passes : (n : ℕ) (d : PointDay) → Joins n d → Tested n d 0
+passes n d j = record { passed = λ e. j; failed = λ h. absurd (h refl) }

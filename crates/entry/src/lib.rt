@@ -1,24 +1,20 @@
 // Join: a user enters the point-day.
 ghost use mathlib.Core.Path.{_≡_};
 ghost use Prim.Native.Nat.{_<_};
+ghost use lib.ListN.{length};
 ghost use Rattle.point_day.specs.Limits.{USERS};
 ghost use Rattle.point_day.specs.Calls.{refused, join};
-ghost use Rattle.point_day.specs.Answers.{join-answer};
+ghost use Rattle.point_day.specs.Answers.{answer-of};
 ghost use Rattle.point_day.specs.Struct.{outcome, called};
-ghost use Rattle.entry.specs.Appended.{appended};
-use point_day::JoinAnswer;
-use point_day::JoinResult;
+ghost use Rattle.point_day.specs.declared.Stage.{Stage};
+ghost use Rattle.state.specs.Places.{Lengths};
+ghost use Rattle.taken.specs.Standing.{parts};
+ghost use Rattle.entry.specs.Appended.{appended, Tested};
+use point_day::Answer;
+use point_day::Measurement;
+use point_day::Outcome;
 use point_day::PointDay;
 use point_day::USERS;
-
-fn join_refused(number: u8, day: PointDay) -> JoinResult
-    ensures { λ r. ⌜ outcome (join-answer (r .answer)) (r .day) ≡ outcome (refused number) day ⌝ }
-{
-    JoinResult {
-        answer: JoinAnswer::Refused(number),
-        day: day,
-    }
-}
 
 // The user in the next slot.
 fn append(day: PointDay, user: u16) -> PointDay
@@ -32,29 +28,69 @@ fn append(day: PointDay, user: u16) -> PointDay
     next
 }
 
-// Join: adds a user.
-pub fn join(day: PointDay, user: u16) -> JoinResult
-    ensures { λ r. ⌜ outcome (join-answer (r .answer)) (r .day) ≡ called (join user) day ⌝ }
+// The tests of a join, on the parts of a point-day at any stage: 0, or the number of the refusal.
+pub fn join_test<'a>(
+    allotted: bool,
+    measurement: Measurement,
+    n: usize,
+    users: &'a [u16],
+    consumption: &'a [i64],
+    losses: &'a [i64],
+    balance: &'a [i64],
+    revision: &'a [i64],
+    user: u16,
+) -> u8
+    requires { ⌜ (length (now users) ≡ USERS) × Lengths (now consumption) (now losses) (now balance) (now revision) ⌝ }
+    ensures { λ r. ⌜ ((stage : Stage) → Tested user (parts stage allotted measurement n (now (users .entry)) (now (consumption .entry)) (now (losses .entry)) (now (balance .entry)) (now (revision .entry))) r) ⌝ }
 {
-    if !taken::is_taken(day) {
-        return join_refused(2, day);
+    if !taken::parts_taken(
+        allotted,
+        measurement,
+        n,
+        users,
+        consumption,
+        losses,
+        balance,
+        revision,
+    ) {
+        return 2;
     }
-    if day.allotted {
-        return join_refused(1, day);
+    if allotted {
+        return 1;
     }
     if user == 0 {
-        return join_refused(2, day);
+        return 2;
     }
-    let n = day.count;
-    if state::slot_of(&day.users, n, user) < n {
-        return join_refused(4, day);
+    if state::slot_of(users, n, user) < n {
+        return 4;
     }
     if USERS <= n {
-        return join_refused(5, day);
+        return 5;
+    }
+    0
+}
+
+// Join: adds a user.
+pub fn join(day: PointDay, user: u16) -> Outcome
+    ensures { λ r. ⌜ outcome (answer-of (r .answer)) (r .day) ≡ called (join user) day ⌝ }
+{
+    let number = join_test(
+        day.allotted,
+        day.measurement,
+        day.count,
+        &day.users,
+        &day.consumption,
+        &day.losses,
+        &day.balance,
+        &day.revision,
+        user,
+    );
+    if number != 0 {
+        return point_day::refuse(number, day);
     }
     let next = append(day, user);
-    JoinResult {
-        answer: JoinAnswer::Done,
+    Outcome {
+        answer: Answer::Done,
         day: next,
     }
 }

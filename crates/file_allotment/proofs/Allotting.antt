@@ -11,7 +11,7 @@ use Rattle.numbers.specs.Lists.{distinct, flat}
 use Rattle.point_day.specs.Limits.{USERS, CELLS}
 use Rattle.point_day.specs.Day.{Day, measurement-right}
 use Rattle.point_day.specs.Calls as calls
-use Rattle.point_day.specs.Answers.{allot-answer}
+use Rattle.point_day.specs.Answers.{answer-of}
 use Rattle.point_day.specs.Struct.{Sized, read, padded, laid, taken, outcome, called}
 use Rattle.point_day.specs.declared.Stage.the-variants.{Provisional}
 use Rattle.point_day.specs.declared.Measurement.{Measurement}
@@ -43,13 +43,13 @@ reported out e p q = (p ∙ ap (λ t. length (text t)) e, q ∙ ap (λ t. writte
 
 -- ---- allot
 
-module _ (p q : PointDay) (a : AllotAnswer) (h : outcome (allot-answer a) q ≡ called calls.allot p) where
+module _ (p q : PointDay) (a : AllotAnswer) (h : outcome (answer-of a) q ≡ called calls.allot p) where
   pub allot-refused : (n : ℕ) → a ≡ Refused n → (g : ℕ) → refused n ≡ in-order g (allot ∷ []) p
-  allot-refused n e g = sym (step g allot [] p (ap (λ b. outcome (allot-answer b) q) (sym e) ∙ h))
+  allot-refused n e g = sym (step g allot [] p (ap (λ b. outcome (answer-of b) q) (sym e) ∙ h))
 
   pub allot-done : a ≡ Done → (g : ℕ) → allotted g (read q) ≡ in-order g (allot ∷ []) p
   unfolding in-order
-  allot-done e g = sym (step g allot [] p (ap (λ b. outcome (allot-answer b) q) (sym e) ∙ h))
+  allot-done e g = sym (step g allot [] p (ap (λ b. outcome (answer-of b) q) (sym e) ∙ h))
 
   pub allot-taken : Sized p → taken p ≡ true → p .allotted ≡ false → taken q ≡ true
   allot-taken z t e = outcome-taken p z t e allot h

@@ -18,12 +18,10 @@ use Rattle.point_day.specs.Limits.{USERS, CELLS, LIMIT, LAST-NUMBER}
 use Rattle.point_day.specs.Day.{all-offtake, measurement-right}
 use Rattle.point_day.specs.Calls.{Answer, done, losses-added, line-right}
 use Rattle.point_day.specs.Calls as calls
-use Rattle.point_day.specs.Answers.{line-answer}
 use Rattle.point_day.specs.Struct.{Sized, Outcome, user-at, read, none-below, taken, outcome, called}
 use Rattle.point_day.specs.declared.Measurement.{Measurement}
 use Rattle.point_day.specs.declared.Measurement.the-variants.{Unmeasured}
 use Rattle.point_day.specs.declared.PointDay.{PointDay}
-use Rattle.point_day.specs.declared.LineAnswer.the-variants.{Refused, LossesAdded}
 use Rattle.point_day.proofs.Taken.{taken-facts}
 use Rattle.state.specs.Places.{Placed}
 use Rattle.state.proofs.Totals.{offtake-is}
@@ -164,17 +162,16 @@ module _ (i : ℕ) {us : List ℕ} {cs ls : List ℤ} {x : ℕ} (s : Entered (i 
     placed = record { within = omega arith; there = λ l. here; missing = λ q. absurd (omega arith) }
 
     lined : (m : Measurement) → measurement-right m ≡ true
-        → outcome (line-answer (lined-at i kind c k x (entering (i + 1) us cs ls m) .answer)) (lined-at i kind c k x (entering (i + 1) us cs ls m) .day)
-        ≡ called (calls.line u kind c k) (entering (i + 1) us cs ls m)
+        → lined-at i kind c k x (entering (i + 1) us cs ls m) ≡ called (calls.line u kind c k) (entering (i + 1) us cs ls m)
     lined m h =
         line-done u kind c k (entering (i + 1) us cs ls m) (sized s m) (s .taken m h) (unfold entering in refl) e i (unfold entering in placed)
-        (unfold entering in omega arith) (lined-at i kind c k x (entering (i + 1) us cs ls m)) x (s .sum ∙ ap all-offtake (same-users (i + 1) us cs ls m)) refl
+        (unfold entering in omega arith) x (s .sum ∙ ap all-offtake (same-users (i + 1) us cs ls m))
 
     pub line-past : past-limit x c k ≡ true → (g : ℕ) (m : Measurement) (rest : List Call) → measurement-right m ≡ true
         → in-order g (line u kind c k ∷ rest) (entering (i + 1) us cs ls m) ≡ refused 6
     line-past f g m rest h =
         step g (line u kind c k) rest (entering (i + 1) us cs ls m) (lined m h)
-        ∙ ap (λ b. unless-refused (verdict-of (line-answer (pick b (Refused 6) (LossesAdded (line-losses c k))))) (in-order g rest (lined-at i kind c k x (entering (i + 1) us cs ls m) .day))) f
+        ∙ ap (λ b. unless-refused (verdict-of (pick b (calls.refused 6) (losses-added (line-losses c k)))) (in-order g rest (lined-at i kind c k x (entering (i + 1) us cs ls m) .day))) f
 
     module _ (f : past-limit x c k ≡ false) where
       added : (m : Measurement) → measurement-right m ≡ true
@@ -183,7 +180,7 @@ module _ (i : ℕ) {us : List ℕ} {cs ls : List ℤ} {x : ℕ} (s : Entered (i 
         where
           go : Bool → Outcome
           go b =
-              outcome (line-answer (pick b (Refused 6) (LossesAdded (line-losses c k))))
+              outcome (pick b (calls.refused 6) (losses-added (line-losses c k)))
               (pick b (entering (i + 1) us cs ls m) (with-cells (more (place i kind) c (entering (i + 1) us cs ls m .consumption)) (more (place i kind) (line-losses c k) (entering (i + 1) us cs ls m .losses)) (entering (i + 1) us cs ls m)))
 
       pub line-added : (g : ℕ) (m : Measurement) (rest : List Call) → measurement-right m ≡ true

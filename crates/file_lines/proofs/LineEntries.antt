@@ -8,8 +8,8 @@ use lib.IntN.{ℤ}
 use Rattle.numbers.specs.Sums.{pick}
 use Rattle.point_day.specs.Limits.{LIMIT}
 use Rattle.point_day.specs.Calls.{line-right}
-use Rattle.point_day.specs.declared.LineAnswer.{LineAnswer}
-use Rattle.point_day.specs.declared.LineAnswer.the-variants as line
+use Rattle.line_cells.specs.declared.CellLine.{CellLine}
+use Rattle.line_cells.specs.declared.CellLine.the-variants as line
 use Rattle.line_cells.specs.Cell.{line-losses, past-limit, line-on, more, place}
 use Rattle.line_cells.proofs.Ranges.{ranges, losses-small}
 use Rattle.file_lines.specs.Pieces.{line-entry, is-added}
@@ -38,29 +38,29 @@ module _ (u slot kind c k x : ℕ) (cs ls : List ℤ) where
       losses = rw e (q ∙ turned (past-limit x c k) ls (more (place slot kind) (line-losses c k) ls));
     }
 
-    pub past : (n : ℕ) {a : LineAnswer} → a ≡ line-on x c k → a ≡ line.Refused n → Line u slot kind c k x cs ls (Refused n) cs′ ls′
+    pub past : (n : ℕ) {a : CellLine} → a ≡ line-on x c k → a ≡ line.Refused n → Line u slot kind c k x cs ls (Refused n) cs′ ls′
     past n f h = entered (go (past-limit x c k) (sym f ∙ h))
       where
-        go : (b : Bool) → pick b (line.Refused 6) (line.LossesAdded (line-losses c k)) ≡ line.Refused n → Refused n ≡ pick b (Refused 6) (Offtake (x + (c + line-losses c k)))
+        go : (b : Bool) → pick b (line.Refused 6) (line.Added (line-losses c k)) ≡ line.Refused n → Refused n ≡ pick b (Refused 6) (Offtake (x + (c + line-losses c k)))
         go true w = let z : n ≡ 6 = cc in ap Refused z
         go false w = absurd (let z : _≡_ {A = ℕ} 0 1 = cc in omega arith)
 
-    pub is-losses : (v : ℕ) {a : LineAnswer} → a ≡ line-on x c k → a ≡ line.LossesAdded v → v ≡ line-losses c k
+    pub is-losses : (v : ℕ) {a : CellLine} → a ≡ line-on x c k → a ≡ line.Added v → v ≡ line-losses c k
     is-losses v f h = go (past-limit x c k) (sym f ∙ h)
       where
-        go : (b : Bool) → pick b (line.Refused 6) (line.LossesAdded (line-losses c k)) ≡ line.LossesAdded v → v ≡ line-losses c k
+        go : (b : Bool) → pick b (line.Refused 6) (line.Added (line-losses c k)) ≡ line.Added v → v ≡ line-losses c k
         go true w = absurd (let z : _≡_ {A = ℕ} 0 1 = cc in omega arith)
         go false w = cc
 
-    pub small : (v : ℕ) {a : LineAnswer} → a ≡ line-on x c k → a ≡ line.LossesAdded v → (c ≤ LIMIT) × (v ≤ LIMIT)
+    pub small : (v : ℕ) {a : CellLine} → a ≡ line-on x c k → a ≡ line.Added v → (c ≤ LIMIT) × (v ≤ LIMIT)
     small v f h =
         let r = ranges u kind c k e in
         (r .consumption, rw (is-losses v f h) (losses-small c k (r .consumption) (r .coefficient)))
 
-    pub added : (v : ℕ) {a : LineAnswer} → a ≡ line-on x c k → a ≡ line.LossesAdded v → Line u slot kind c k x cs ls (Offtake (x + (c + v))) cs′ ls′
+    pub added : (v : ℕ) {a : CellLine} → a ≡ line-on x c k → a ≡ line.Added v → Line u slot kind c k x cs ls (Offtake (x + (c + v))) cs′ ls′
     added v f h = entered (go (past-limit x c k) (sym f ∙ h))
       where
-        go : (b : Bool) → pick b (line.Refused 6) (line.LossesAdded (line-losses c k)) ≡ line.LossesAdded v → Offtake (x + (c + v)) ≡ pick b (Refused 6) (Offtake (x + (c + line-losses c k)))
+        go : (b : Bool) → pick b (line.Refused 6) (line.Added (line-losses c k)) ≡ line.Added v → Offtake (x + (c + v)) ≡ pick b (Refused 6) (Offtake (x + (c + line-losses c k)))
         go true w = absurd (let z : _≡_ {A = ℕ} 0 1 = cc in omega arith)
         go false w = let z : v ≡ line-losses c k = cc in ap (λ y. Offtake (x + (c + y))) z
 

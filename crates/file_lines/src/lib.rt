@@ -11,8 +11,8 @@ ghost use Rattle.file_lines.specs.Pieces.{line-entry, is-added, user-ref
 use file_form::COEFFICIENT;
 use file_form::CONSUMPTION;
 use file_form::LINE;
+use line_cells::CellLine;
 use point_day::CELLS;
-use point_day::LineAnswer;
 use point_day::USERS;
 
 // What entering a line, a section or all sections comes to: the number of a refusal, or all consumption and losses so far.
@@ -53,8 +53,8 @@ pub fn enter_line(
         coefficient,
         offtake,
     ) {
-        LineAnswer::Refused(number) => Entry::Refused(number),
-        LineAnswer::LossesAdded(added) => Entry::Offtake(offtake + (amount + added)),
+        CellLine::Refused(number) => Entry::Refused(number),
+        CellLine::Added(added) => Entry::Offtake(offtake + (amount + added)),
     }
 }
 

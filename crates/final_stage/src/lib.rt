@@ -3,24 +3,15 @@ ghost use mathlib.Core.Bool.{not};
 ghost use Rattle.numbers.specs.Lists.{either};
 ghost use Rattle.point_day.specs.Day.{last-stage, next};
 ghost use Rattle.point_day.specs.Calls.{refused, start-final};
-ghost use Rattle.point_day.specs.Answers.{start-final-answer};
+ghost use Rattle.point_day.specs.Answers.{answer-of};
 ghost use Rattle.point_day.specs.Struct.{outcome, called};
 ghost use Rattle.final_stage.specs.Writes.{restarted};
+use point_day::Answer;
 use point_day::CELLS;
+use point_day::Outcome;
 use point_day::PointDay;
 use point_day::Stage;
-use point_day::StartFinalAnswer;
-use point_day::StartFinalResult;
 use point_day::USERS;
-
-fn refuse(number: u8, day: PointDay) -> StartFinalResult
-    ensures { λ r. ⌜ outcome (start-final-answer (r .answer)) (r .day) ≡ outcome (refused number) day ⌝ }
-{
-    StartFinalResult {
-        answer: StartFinalAnswer::Refused(number),
-        day: day,
-    }
-}
 
 // Whether the stage is the last.
 fn is_last(stage: Stage) -> bool
@@ -72,19 +63,19 @@ fn restart(day: PointDay) -> PointDay
 }
 
 // Start-final: the next stage, entering.
-pub fn start_final(day: PointDay) -> StartFinalResult
-    ensures { λ r. ⌜ outcome (start-final-answer (r .answer)) (r .day) ≡ called start-final day ⌝ }
+pub fn start_final(day: PointDay) -> Outcome
+    ensures { λ r. ⌜ outcome (answer-of (r .answer)) (r .day) ≡ called start-final day ⌝ }
 {
     if !taken::is_taken(day) {
-        return refuse(2, day);
+        return point_day::refuse(2, day);
     }
     let stage = day.stage;
     if cannot_start(day.allotted, stage) {
-        return refuse(1, day);
+        return point_day::refuse(1, day);
     }
     let next = restart(day);
-    StartFinalResult {
-        answer: StartFinalAnswer::Done,
+    Outcome {
+        answer: Answer::Done,
         day: next,
     }
 }

@@ -17,7 +17,7 @@ use lib.IntN.{ℤ, pos}
 use borrow.Author.Tests.{lt-ltb, le-ltb}
 use Rattle.numbers.specs.Sums.{pick}
 use Rattle.point_day.specs.Limits.{LIMIT}
-use Rattle.point_day.specs.declared.LineAnswer.the-variants.{Refused, LossesAdded}
+use Rattle.line_cells.specs.declared.CellLine.the-variants.{Refused, Added}
 use Rattle.line_cells.specs.Cell.{line-losses, past-limit, line-on, place, more}
 
 module _ (x : ℤ) (n : ℕ) (h : Within LIMIT x) (l : n ≤ LIMIT) where
@@ -38,7 +38,7 @@ module _ (sum c k slot kind : ℕ) (cs ls : List ℤ) (x : ℕ) (e : x ≡ line-
       rw q (refl, (refl, refl))
 
   pub cell-added : {cs′ ls′ : List ℤ} → sum + (c + x) ≤ LIMIT → cs′ ≡ more (place slot kind) c cs → ls′ ≡ more (place slot kind) x ls
-      → (LossesAdded x ≡ line-on sum c k) × ((cs′ ≡ pick (past-limit sum c k) cs (more (place slot kind) c cs)) × (ls′ ≡ pick (past-limit sum c k) ls (more (place slot kind) (line-losses c k) ls)))
+      → (Added x ≡ line-on sum c k) × ((cs′ ≡ pick (past-limit sum c k) cs (more (place slot kind) c cs)) × (ls′ ≡ pick (past-limit sum c k) ls (more (place slot kind) (line-losses c k) ls)))
   cell-added l p w =
       let q : past-limit sum c k ≡ false = ap (λ y. ltb LIMIT (sum + (c + y))) (sym e) ∙ le-ltb LIMIT (sum + (c + x)) l in
-      rw q (ap LossesAdded e, (p, w ∙ ap (λ y. more (place slot kind) y ls) e))
+      rw q (ap Added e, (p, w ∙ ap (λ y. more (place slot kind) y ls) e))

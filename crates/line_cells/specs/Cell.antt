@@ -9,8 +9,8 @@ use Rattle.numbers.specs.Sums.{pick, atZ}
 use Rattle.numbers.specs.Amounts.{Within}
 use Rattle.point_day.specs.Limits.{KINDS, LIMIT}
 use Rattle.point_day.specs.Calls.{cell-step}
-use Rattle.point_day.specs.declared.LineAnswer.{LineAnswer}
-use Rattle.point_day.specs.declared.LineAnswer.the-variants.{Refused, LossesAdded}
+use Rattle.line_cells.specs.declared.CellLine.{CellLine}
+use Rattle.line_cells.specs.declared.CellLine.the-variants.{Refused, Added}
 
 -- the losses that a line adds
 abbrev pub line-losses : ℕ → ℕ → ℕ
@@ -20,8 +20,8 @@ line-losses c k = cell-step c k (record { consumption = 0; losses = 0 }) .added
 abbrev pub past-limit : ℕ → ℕ → ℕ → Bool
 past-limit sum c k = ltb LIMIT (sum + (c + line-losses c k))
 
-abbrev pub line-on : ℕ → ℕ → ℕ → LineAnswer
-line-on sum c k = pick (past-limit sum c k) (Refused 6) (LossesAdded (line-losses c k))
+abbrev pub line-on : ℕ → ℕ → ℕ → CellLine
+line-on sum c k = pick (past-limit sum c k) (Refused 6) (Added (line-losses c k))
 
 -- the cell of a slot and kind
 abbrev pub place : ℕ → ℕ → ℕ

@@ -1,7 +1,9 @@
 // A line at its cell: its ranges, the losses it adds, and the limit on consumption and losses.
 ghost use mathlib.Core.Path.{_≡_};
 ghost use Prim.Native.Nat.{_≤_, _<_};
-ghost use Rattle.numbers.specs.Sums.{pick};
+ghost use lib.ListN.{length};
+ghost use Rattle.numbers.specs.Sums.{pick, atZ};
+ghost use Rattle.numbers.specs.Amounts.{Within};
 ghost use Rattle.point_day.specs.Limits.{USERS, KINDS, CELLS, LIMIT, COEFFICIENT};
 ghost use Rattle.point_day.specs.Calls.{line-right};
 ghost use Rattle.line_cells.specs.Cell.{line-losses, past-limit, line-on, place, more, Limited};
@@ -9,9 +11,14 @@ use point_day::CELLS;
 use point_day::COEFFICIENT;
 use point_day::KINDS;
 use point_day::LIMIT;
-use point_day::LineAnswer;
 use point_day::PARTS;
 use point_day::USERS;
+
+// What a line at its cell comes to: the number of a refusal, or the losses that it added.
+pub enum CellLine {
+    Refused(u8),
+    Added(u64),
+}
 
 // Whether a line's arguments are in their ranges.
 pub fn line_right(user: u16, kind: u8, consumption: u64, coefficient: u64) -> bool
@@ -33,16 +40,16 @@ pub fn line_right(user: u16, kind: u8, consumption: u64, coefficient: u64) -> bo
 }
 
 // The losses that a line adds.
-fn line_losses(consumption: u64, coefficient: u64) -> u64
+pub fn line_losses(consumption: u64, coefficient: u64) -> u64
     requires { ⌜ (consumption ≤ LIMIT) × (coefficient ≤ COEFFICIENT) ⌝ }
     ensures { λ r. ⌜ (r ≡ line-losses consumption coefficient) × (r ≤ LIMIT) ⌝ }
 {
     numbers::nearest(consumption * coefficient, PARTS)
 }
 
-// x more in a cell.
-fn add_at(cells: &mut [i64; CELLS], i: usize, x: u64)
-    requires { ⌜ (i < CELLS) × (x ≤ LIMIT) × Limited (now cells) ⌝ }
+// x more at a place: of an array of cells, or of a longer list.
+pub fn add_at(cells: &mut [i64], i: usize, x: u64)
+    requires { ⌜ (i < length (now cells)) × (x ≤ LIMIT) × Within LIMIT (atZ (now cells) i) ⌝ }
     ensures { λ _. ⌜ now (cells .exit) ≡ more i x (now (cells .entry)) ⌝ }
 {
     cells[i] = cells[i] + x as i64;
@@ -57,7 +64,7 @@ pub fn line_cell(
     amount: u64,
     coefficient: u64,
     offtake: u64,
-) -> LineAnswer
+) -> CellLine
     requires { ⌜ (slot < USERS) × (1 ≤ kind) × (kind ≤ KINDS) × (amount ≤ LIMIT) × (coefficient ≤ COEFFICIENT) × (offtake ≤ LIMIT) ⌝ }
     requires { ⌜ Limited (now consumption) × Limited (now losses) ⌝ }
     ensures { λ r. ⌜ r ≡ line-on offtake amount coefficient ⌝ }
@@ -66,10 +73,10 @@ pub fn line_cell(
 {
     let added = line_losses(amount, coefficient);
     if LIMIT < offtake + (amount + added) {
-        return LineAnswer::Refused(6);
+        return CellLine::Refused(6);
     }
     let i = KINDS * slot + (kind as usize - 1);
     add_at(consumption, i, amount);
     add_at(losses, i, added);
-    LineAnswer::LossesAdded(added)
+    CellLine::Added(added)
 }

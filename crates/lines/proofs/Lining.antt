@@ -2,33 +2,29 @@
 use mathlib.Core.Path.{_≡_, refl, sym, ap, ap₂, _∙_}
 use mathlib.Core.Bool.{Bool, true, false, not}
 use mathlib.Core.List.{List, [], _∷_, map}
-use Prim.Native.Nat.{ℕ, zero, suc, _+_, _-_, _*_, _<_}
+use Prim.Native.Nat.{ℕ, zero, suc, _+_, _-_, _*_, _≤_, _<_}
 use native.Mathlib.Omega.{arith}
-use lib.Dec.{eqb}
-use lib.IntN.{ℤ, pos}
+use lib.Dec.{eqb, ltb}
+use lib.IntN.{pos}
 use lib.ListN.{length, getD, take, set, length-map, length-set, List·getD-map}
 use lib.Seq.{getD-take, map-set-same}
-use borrow.Author.Tests.{eqb-false, eq-eqb, ne-eqb, not-true}
+use borrow.Author.Tests.{eqb-false, eq-eqb, ne-eqb, not-true, lt-ltb, le-ltb}
 use Rattle.numbers.specs.Sums.{pick, at}
 use Rattle.numbers.specs.Lists.{has, distinct, flat}
 use Rattle.numbers.specs.Nearest.{nearest}
 use Rattle.numbers.proofs.Lists.{All, all-map, true≢false, both-fst, both-snd, either-fst, either-snd, has-at}
-use Rattle.point_day.specs.Limits.{USERS, CELLS, PARTS}
+use Rattle.point_day.specs.Limits.{USERS, CELLS, LIMIT, PARTS}
 use Rattle.point_day.specs.Day.{User, Day, numbers, all-offtake}
 use Rattle.point_day.specs.Calls.{refused, losses-added, verdict, with-users, cell-step, user-line, for-user, line-right, line}
-use Rattle.point_day.specs.Answers.{line-answer}
 use Rattle.point_day.specs.Struct.{Sized, read, padded, laid, taken, outcome, called}
-use Rattle.point_day.specs.declared.LineAnswer.{LineAnswer}
-use Rattle.point_day.specs.declared.LineAnswer.the-variants.{Refused, LossesAdded}
-use Rattle.point_day.specs.declared.LineResult.{LineResult}
 use Rattle.point_day.specs.declared.PointDay.{PointDay}
 use Rattle.point_day.proofs.Taken.{taken-facts}
 use Rattle.point_day.proofs.Arrays.{Full, nobody, length-flat}
 use Rattle.point_day.proofs.Back.{read-full, read-count, read-numbers, laid-read}
 use Rattle.point_day.proofs.Called.{called-refused, called-accepted, test-holds, test-passed, none-left}
 use Rattle.state.specs.Places.{Placed}
-use Rattle.lines.specs.Lined.{with-cells, lined-at}
-use Rattle.line_cells.specs.Cell.{line-losses, past-limit, line-on, place, more}
+use Rattle.lines.specs.Lined.{with-cells, lined-at, Lines}
+use Rattle.line_cells.specs.Cell.{line-losses, past-limit, place, more}
 use Rattle.line_cells.proofs.Ranges.{ranges}
 use Rattle.point_day.proofs.Padding.{padded-set, map-set, flat-set, at-flat}
 
@@ -131,10 +127,8 @@ module _ (n kind c k : ℕ) (d : PointDay) (z : Sized d) (ok : taken d ≡ true)
             (laid-line n kind c k (read d) (read-full d z t) (t .apart) s (omega (arith, read-count d z t)) here (omega (arith, r .high))
             ∙ ap (λ (x : PointDay). with-cells (more (place s kind) c (x .consumption)) (more (place s kind) (line-losses c k) (x .losses)) x) (laid-read d z t))
 
-        pub line-done : (r : LineResult) (sum : ℕ) → sum ≡ all-offtake (read d .users) → r ≡ lined-at s kind c k sum d → outcome (line-answer (r .answer)) (r .day) ≡ called (line n kind c k) d
-        line-done r sum q w =
-            ap (λ (x : LineResult). outcome (line-answer (x .answer)) (x .day)) (w ∙ ap (λ y. lined-at s kind c k y d) q)
-            ∙ go (past-limit (all-offtake (read d .users)) c k) refl
+        pub line-done : (sum : ℕ) → sum ≡ all-offtake (read d .users) → lined-at s kind c k sum d ≡ called (line n kind c k) d
+        line-done sum q = ap (λ y. lined-at s kind c k y d) q ∙ go (past-limit (all-offtake (read d .users)) c k) refl
           where
             passed : (b : Bool) → past-limit (all-offtake (read d .users)) c k ≡ b → verdict (line n kind c k (read d) .tests) ≡ verdict (record { number = 6; holds = b } ∷ [])
             passed b x =
@@ -142,7 +136,7 @@ module _ (n kind c k : ℕ) (d : PointDay) (z : Sized d) (ok : taken d ≡ true)
                 ∙ test-passed 1 (d .allotted) _ e (test-passed 2 (not (line-right n kind c k)) _ (ap not h) (test-passed 3 (not (has n (take (d .count) (d .users)))) _ (ap not found) (ap (λ y. verdict (record { number = 6; holds = y } ∷ [])) x)))
 
             go : (b : Bool) → past-limit (all-offtake (read d .users)) c k ≡ b
-                → outcome (line-answer (pick b (Refused 6) (LossesAdded (line-losses c k))))
+                → outcome (pick b (refused 6) (losses-added (line-losses c k)))
                 (pick b d (with-cells (more (place s kind) c (d .consumption)) (more (place s kind) (line-losses c k) (d .losses)) d))
                 ≡ called (line n kind c k) d
             go true x = called-refused (line n kind c k) d 6 ok (passed true x ∙ test-holds 6 true [] refl)
@@ -150,18 +144,21 @@ module _ (n kind c k : ℕ) (d : PointDay) (z : Sized d) (ok : taken d ≡ true)
                 ap (outcome (losses-added (line-losses c k))) after
                 ∙ unfold line cell-step in called-accepted (line n kind c k) d ok (passed false x ∙ test-passed 6 false [] refl none-left)
 
--- ---- a line at a slot, in the code
+        -- what the code's last test finds, x being the losses to add
+        module _ (sum x : ℕ) (q : sum ≡ all-offtake (read d .users)) (w : x ≡ line-losses c k) where
+          pub line-6 : LIMIT < sum + (c + x) → outcome (refused 6) d ≡ called (line n kind c k) d
+          line-6 l =
+              let b : past-limit sum c k ≡ true = ap (λ y. ltb LIMIT (sum + (c + y))) (sym w) ∙ lt-ltb LIMIT (sum + (c + x)) l in
+              rw b at (line-done sum q)
 
-module _ (sum c k slot kind : ℕ) (d : PointDay) where
-  pub lined-is : {a : LineAnswer} {cs ls : List ℤ} → a ≡ line-on sum c k
-      → cs ≡ pick (past-limit sum c k) (d .consumption) (more (place slot kind) c (d .consumption))
-      → ls ≡ pick (past-limit sum c k) (d .losses) (more (place slot kind) (line-losses c k) (d .losses))
-      → _≡_ {A = LineResult} (record { answer = a; day = with-cells cs ls d }) (lined-at slot kind c k sum d)
-  lined-is {a} {cs} {ls} p q w =
-      (λ i. record { answer = p i; day = with-cells (q i) (w i) d })
-      ∙ ap (λ (y : PointDay). record { answer = line-on sum c k; day = y }) (go (past-limit sum c k))
-    where
-      go : (b : Bool) → with-cells (pick b (d .consumption) (more (place slot kind) c (d .consumption))) (pick b (d .losses) (more (place slot kind) (line-losses c k) (d .losses))) d
-          ≡ pick b d (with-cells (more (place slot kind) c (d .consumption)) (more (place slot kind) (line-losses c k) (d .losses)) d)
-      go true = refl
-      go false = refl
+          pub line-passed : sum + (c + x) ≤ LIMIT → Lines n kind c k d (place s kind) x
+          line-passed l =
+              let b : past-limit sum c k ≡ false = ap (λ y. ltb LIMIT (sum + (c + y))) (sym w) ∙ le-ltb LIMIT (sum + (c + x)) l in
+              let r = ranges n kind c k h in
+              record {
+                is = ap (λ y. outcome (losses-added y) (with-cells (more (place s kind) c (d .consumption)) (more (place s kind) y (d .losses)) d)) w ∙ rw b at (line-done sum q);
+                taken = ok;
+                place = omega (arith, taken-facts d ok .few, r .low, r .high);
+                amount = r .consumption;
+                added = omega arith;
+              }

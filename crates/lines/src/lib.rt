@@ -1,84 +1,120 @@
 // Line: consumption and losses of a user and kind, on a point-day by value or lent.
 ghost use mathlib.Core.Path.{_≡_};
 ghost use Prim.Native.Nat.{_≤_, _<_};
-ghost use Rattle.point_day.specs.Limits.{USERS, KINDS, LIMIT, COEFFICIENT};
+ghost use lib.ListN.{length};
+ghost use Rattle.numbers.specs.Sums.{atZ};
+ghost use Rattle.numbers.specs.Amounts.{Within};
+ghost use Rattle.point_day.specs.Limits.{USERS, CELLS, LIMIT};
 ghost use Rattle.point_day.specs.Calls.{refused, line};
-ghost use Rattle.point_day.specs.Answers.{line-answer};
+ghost use Rattle.point_day.specs.Answers.{answer-of};
 ghost use Rattle.point_day.specs.Struct.{outcome, called};
-ghost use Rattle.line_cells.specs.Cell.{Limited};
-ghost use Rattle.lines.specs.Lined.{lined-at};
-use point_day::COEFFICIENT;
+ghost use Rattle.point_day.specs.declared.Stage.{Stage};
+ghost use Rattle.state.specs.Places.{Lengths};
+ghost use Rattle.taken.specs.Standing.{parts};
+ghost use Rattle.line_cells.specs.Cell.{more};
+ghost use Rattle.lines.specs.Lined.{with-cells, Tested};
+use point_day::Answer;
 use point_day::KINDS;
 use point_day::LIMIT;
-use point_day::LineAnswer;
-use point_day::LineResult;
+use point_day::Measurement;
+use point_day::Outcome;
 use point_day::PointDay;
-use point_day::USERS;
 
-fn line_refused(number: u8, day: PointDay) -> LineResult
-    ensures { λ r. ⌜ outcome (line-answer (r .answer)) (r .day) ≡ outcome (refused number) day ⌝ }
-{
-    LineResult {
-        answer: LineAnswer::Refused(number),
-        day: day,
-    }
+// What the tests of a line find: a refusal, or the place of its cell and the losses that it adds.
+pub enum LineTest {
+    Refused(u8),
+    Passed(usize, u64),
 }
 
-// A line at a slot of a point-day.
-fn line_at(
-    day: PointDay,
-    slot: usize,
+// The tests of a line, on the parts of a point-day at any stage.
+pub fn line_test<'a>(
+    allotted: bool,
+    measurement: Measurement,
+    count: usize,
+    users: &'a [u16],
+    consumption: &'a [i64],
+    losses: &'a [i64],
+    balance: &'a [i64],
+    revision: &'a [i64],
+    user: u16,
     kind: u8,
     amount: u64,
     coefficient: u64,
-    offtake: u64,
-) -> LineResult
-    requires { ⌜ (slot < USERS) × (1 ≤ kind) × (kind ≤ KINDS) × (amount ≤ LIMIT) × (coefficient ≤ COEFFICIENT) × (offtake ≤ LIMIT) ⌝ }
-    requires { ⌜ Limited (day .consumption) × Limited (day .losses) ⌝ }
-    ensures { λ r. ⌜ r ≡ lined-at slot kind amount coefficient offtake day ⌝ }
+) -> LineTest
+    requires { ⌜ (length (now users) ≡ USERS) × Lengths (now consumption) (now losses) (now balance) (now revision) ⌝ }
+    ensures { λ r. ⌜ ((stage : Stage) → Tested user kind amount coefficient (parts stage allotted measurement count (now (users .entry)) (now (consumption .entry)) (now (losses .entry)) (now (balance .entry)) (now (revision .entry))) r) ⌝ }
+{
+    if !taken::parts_taken(
+        allotted,
+        measurement,
+        count,
+        users,
+        consumption,
+        losses,
+        balance,
+        revision,
+    ) {
+        return LineTest::Refused(2);
+    }
+    if allotted {
+        return LineTest::Refused(1);
+    }
+    if !line_cells::line_right(user, kind, amount, coefficient) {
+        return LineTest::Refused(2);
+    }
+    let slot = state::slot_of(users, count, user);
+    if slot == count {
+        return LineTest::Refused(3);
+    }
+    let added = line_cells::line_losses(amount, coefficient);
+    if LIMIT < state::offtake(consumption, losses) + (amount + added) {
+        return LineTest::Refused(6);
+    }
+    LineTest::Passed(KINDS * slot + (kind as usize - 1), added)
+}
+
+// A line at the place of its cell.
+fn line_at(day: PointDay, place: usize, amount: u64, added: u64) -> Outcome
+    requires { ⌜ (place < CELLS) × (amount ≤ LIMIT) × (added ≤ LIMIT) × Within LIMIT (atZ (day .consumption) place) × Within LIMIT (atZ (day .losses) place) ⌝ }
+    ensures { λ r. ⌜ (r .answer ≡ Answer.LossesAdded added) × (r .day ≡ with-cells (more place amount (day .consumption)) (more place added (day .losses)) day) ⌝ }
 {
     let mut consumption = day.consumption;
     let mut losses = day.losses;
-    let answer = line_cells::line_cell(
-        &mut consumption,
-        &mut losses,
-        slot,
-        kind,
-        amount,
-        coefficient,
-        offtake,
-    );
+    line_cells::add_at(&mut consumption, place, amount);
+    line_cells::add_at(&mut losses, place, added);
     let next = PointDay {
         consumption: consumption,
         losses: losses,
         ..day
     };
-    LineResult {
-        answer: answer,
+    Outcome {
+        answer: Answer::LossesAdded(added),
         day: next,
     }
 }
 
 // Line: adds consumption and losses of a user and kind, and answers the losses added.
-pub fn line(day: PointDay, user: u16, kind: u8, consumption: u64, coefficient: u64) -> LineResult
-    ensures { λ r. ⌜ outcome (line-answer (r .answer)) (r .day) ≡ called (line user kind consumption coefficient) day ⌝ }
+pub fn line(day: PointDay, user: u16, kind: u8, consumption: u64, coefficient: u64) -> Outcome
+    ensures { λ r. ⌜ outcome (answer-of (r .answer)) (r .day) ≡ called (line user kind consumption coefficient) day ⌝ }
 {
-    if !taken::is_taken(day) {
-        return line_refused(2, day);
+    let test = line_test(
+        day.allotted,
+        day.measurement,
+        day.count,
+        &day.users,
+        &day.consumption,
+        &day.losses,
+        &day.balance,
+        &day.revision,
+        user,
+        kind,
+        consumption,
+        coefficient,
+    );
+    match test {
+        LineTest::Refused(number) => point_day::refuse(number, day),
+        LineTest::Passed(place, added) => line_at(day, place, consumption, added),
     }
-    if day.allotted {
-        return line_refused(1, day);
-    }
-    if !line_cells::line_right(user, kind, consumption, coefficient) {
-        return line_refused(2, day);
-    }
-    let count = day.count;
-    let slot = state::slot_of(&day.users, count, user);
-    if slot == count {
-        return line_refused(3, day);
-    }
-    let offtake = state::offtake(&day.consumption, &day.losses);
-    line_at(day, slot, kind, consumption, coefficient, offtake)
 }
 
 // Line, as an edit of a point-day that the caller lends.
@@ -88,8 +124,8 @@ pub fn line_lent(
     kind: u8,
     consumption: u64,
     coefficient: u64,
-) -> LineAnswer
-    ensures { λ r. ⌜ outcome (line-answer r) (now (day .exit)) ≡ called (line user kind consumption coefficient) (now (day .entry)) ⌝ }
+) -> Answer
+    ensures { λ r. ⌜ outcome (answer-of r) (now (day .exit)) ≡ called (line user kind consumption coefficient) (now (day .entry)) ⌝ }
 {
     let r = line(*day, user, kind, consumption, coefficient);
     *day = r.day;
@@ -103,12 +139,12 @@ pub fn line_by_edit(
     kind: u8,
     consumption: u64,
     coefficient: u64,
-) -> LineResult
-    ensures { λ r. ⌜ outcome (line-answer (r .answer)) (r .day) ≡ called (line user kind consumption coefficient) day ⌝ }
+) -> Outcome
+    ensures { λ r. ⌜ outcome (answer-of (r .answer)) (r .day) ≡ called (line user kind consumption coefficient) day ⌝ }
 {
     let mut edited = day;
     let answer = line_lent(&mut edited, user, kind, consumption, coefficient);
-    LineResult {
+    Outcome {
         answer: answer,
         day: edited,
     }

@@ -4,24 +4,15 @@ ghost use mathlib.Core.Bool.{not};
 ghost use Rattle.numbers.specs.Lists.{both};
 ghost use Rattle.point_day.specs.Day.{provisional};
 ghost use Rattle.point_day.specs.Calls.{refused, measure};
-ghost use Rattle.point_day.specs.Answers.{measure-answer};
+ghost use Rattle.point_day.specs.Answers.{answer-of};
 ghost use Rattle.point_day.specs.Struct.{outcome, called};
 ghost use Rattle.point_day.specs.declared.Measurement.the-variants.{Measured};
 ghost use Rattle.measurement.specs.Remeasured.{remeasured};
-use point_day::MeasureAnswer;
-use point_day::MeasureResult;
+use point_day::Answer;
 use point_day::Measurement;
+use point_day::Outcome;
 use point_day::PointDay;
 use point_day::Stage;
-
-fn measure_refused(number: u8, day: PointDay) -> MeasureResult
-    ensures { λ r. ⌜ outcome (measure-answer (r .answer)) (r .day) ≡ outcome (refused number) day ⌝ }
-{
-    MeasureResult {
-        answer: MeasureAnswer::Refused(number),
-        day: day,
-    }
-}
 
 // Whether the stage doesn't take a measurement: allotted, and not provisional.
 fn measured_for_good(allotted: bool, stage: Stage) -> bool
@@ -43,22 +34,22 @@ fn remeasure(day: PointDay, emission: u64, downstream: u64) -> PointDay
 }
 
 // Measure: emission and downstream emission; the latest counts.
-pub fn measure(day: PointDay, emission: u64, downstream: u64) -> MeasureResult
-    ensures { λ r. ⌜ outcome (measure-answer (r .answer)) (r .day) ≡ called (measure emission downstream) day ⌝ }
+pub fn measure(day: PointDay, emission: u64, downstream: u64) -> Outcome
+    ensures { λ r. ⌜ outcome (answer-of (r .answer)) (r .day) ≡ called (measure emission downstream) day ⌝ }
 {
     if !taken::is_taken(day) {
-        return measure_refused(2, day);
+        return point_day::refuse(2, day);
     }
     let stage = day.stage;
     if measured_for_good(day.allotted, stage) {
-        return measure_refused(1, day);
+        return point_day::refuse(1, day);
     }
     if !state::emission_right(emission, downstream) {
-        return measure_refused(2, day);
+        return point_day::refuse(2, day);
     }
     let next = remeasure(day, emission, downstream);
-    MeasureResult {
-        answer: MeasureAnswer::Done,
+    Outcome {
+        answer: Answer::Done,
         day: next,
     }
 }

@@ -70,7 +70,7 @@ fn put_users(users: &mut [u16], xs: &[i64])
     }
 }
 
-fn users_in(xs: &[i64]) -> [u16; USERS]
+pub fn users_in(xs: &[i64]) -> [u16; USERS]
     requires { ⌜ (length (now xs) ≡ USERS) × (every (up-to LAST-NUMBER) (now xs) ≡ true) ⌝ }
     ensures { λ r. ⌜ r ≡ map natAbs (now (xs .entry)) ⌝ }
 {
@@ -91,7 +91,7 @@ fn stage_of(number: u64) -> Stage
     Stage::FinalDefinitive
 }
 
-fn measurement_of(measured: u64, emission: u64, downstream: u64) -> Measurement
+pub fn measurement_of(measured: u64, emission: u64, downstream: u64) -> Measurement
     ensures { λ r. ⌜ r ≡ measurement-of measured emission downstream ⌝ }
 {
     if measured == 0 {
@@ -101,7 +101,7 @@ fn measurement_of(measured: u64, emission: u64, downstream: u64) -> Measurement
 }
 
 // The size of a number of the list.
-fn size_at(xs: &[i64], i: usize) -> u64
+pub fn size_at(xs: &[i64], i: usize) -> u64
     requires { ⌜ i < length (now xs) ⌝ }
     ensures { λ r. ⌜ r ≡ natAbs (atZ (now (xs .entry)) i) ⌝ }
 {

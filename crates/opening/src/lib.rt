@@ -13,28 +13,18 @@ ghost use Rattle.proration.specs.Proration.{prorateZ};
 ghost use Rattle.point_day.specs.Limits.{USERS, LIMIT, AMOUNT, TOLERANCE};
 ghost use Rattle.point_day.specs.Day.{provisional};
 ghost use Rattle.point_day.specs.Calls.{refused, stand-in};
-ghost use Rattle.point_day.specs.Answers.{stand-in-answer};
+ghost use Rattle.point_day.specs.Answers.{answer-of};
 ghost use Rattle.point_day.specs.Struct.{padded, rows-of, outcome, called};
 ghost use Rattle.stand_in_rows.specs.Rows.{rows};
 ghost use Rattle.opening.specs.Openings.{Usable, opened-with};
+use point_day::Answer;
 use point_day::CELLS;
+use point_day::Outcome;
 use point_day::PAIRS;
 use point_day::PointDay;
 use point_day::ROWS;
 use point_day::Stage;
-use point_day::StandInAnswer;
-use point_day::StandInResult;
 use point_day::USERS;
-
-// A stand-in refused, and the point-day as it was.
-pub fn refuse(number: u8, day: PointDay) -> StandInResult
-    ensures { λ r. ⌜ outcome (stand-in-answer (r .answer)) (r .day) ≡ outcome (refused number) day ⌝ }
-{
-    StandInResult {
-        answer: StandInAnswer::Refused(number),
-        day: day,
-    }
-}
 
 // Whether the stage is provisional entering, and no user has joined.
 pub fn is_open(stage: Stage, allotted: bool, count: usize) -> bool
@@ -116,9 +106,9 @@ pub fn use_row<'a>(
     counts: &'a [usize; ROWS],
     users: &'a [u16; PAIRS],
     amounts: &'a [i64; PAIRS],
-) -> StandInResult
+) -> Outcome
     requires { ⌜ Usable day (rows (now counts) (now users) (now amounts)) net row ⌝ }
-    ensures { λ r. ⌜ outcome (stand-in-answer (r .answer)) (r .day) ≡ called (stand-in TOLERANCE (rows-of (rows (now (counts .entry)) (now (users .entry)) (now (amounts .entry))))) day ⌝ }
+    ensures { λ r. ⌜ outcome (answer-of (r .answer)) (r .day) ≡ called (stand-in TOLERANCE (rows-of (rows (now (counts .entry)) (now (users .entry)) (now (amounts .entry))))) day ⌝ }
 {
     let all_users = &users[..];
     let all_amounts = &amounts[..];
@@ -127,15 +117,15 @@ pub fn use_row<'a>(
     let row_users = &all_users[from..to];
     let row_amounts = &all_amounts[from..to];
     if columns::any_negative(row_amounts) {
-        return refuse(11, day);
+        return point_day::refuse(11, day);
     }
     let shares = share_column(net, row_users, row_amounts);
     let next = opened(day, row_users, shares);
     if taken::any_too_large(next) {
-        return refuse(12, day);
+        return point_day::refuse(12, day);
     }
-    StandInResult {
-        answer: StandInAnswer::RowsLookedAt(row + 1),
+    Outcome {
+        answer: Answer::RowsLookedAt(row + 1),
         day: next,
     }
 }

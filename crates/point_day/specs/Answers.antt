@@ -1,20 +1,8 @@
--- What a call answers, and for each call's enum of answers the number and values of document 01 that each case stands for. Assumes nothing.
+-- What a call answers: document 01's number of a refusal, or the values that it names; and the code's enum of answers. Assumes nothing.
 use Prim.Native.Nat.{ℕ}
 use lib.IntN.{ℤ}
-use Rattle.point_day.specs.declared.JoinAnswer.{JoinAnswer}
-use Rattle.point_day.specs.declared.JoinAnswer.the-variants as join
-use Rattle.point_day.specs.declared.LineAnswer.{LineAnswer}
-use Rattle.point_day.specs.declared.LineAnswer.the-variants as line
-use Rattle.point_day.specs.declared.MeasureAnswer.{MeasureAnswer}
-use Rattle.point_day.specs.declared.MeasureAnswer.the-variants as measure
-use Rattle.point_day.specs.declared.AllotAnswer.{AllotAnswer}
-use Rattle.point_day.specs.declared.AllotAnswer.the-variants as allot
-use Rattle.point_day.specs.declared.StandInAnswer.{StandInAnswer}
-use Rattle.point_day.specs.declared.StandInAnswer.the-variants as stand-in
-use Rattle.point_day.specs.declared.ReviseAnswer.{ReviseAnswer}
-use Rattle.point_day.specs.declared.ReviseAnswer.the-variants as revise
-use Rattle.point_day.specs.declared.StartFinalAnswer.{StartFinalAnswer}
-use Rattle.point_day.specs.declared.StartFinalAnswer.the-variants as start-final
+use Rattle.point_day.specs.declared.Answer as code
+use Rattle.point_day.specs.declared.Answer.the-variants as is
 
 -- the number of a refusal, or the values that document 01 names
 pub data Answer : Type 0 where
@@ -25,31 +13,11 @@ pub data Answer : Type 0 where
   within-tolerance : ℤ → Answer
   revision-assigned : ℤ → Answer
 
-abbrev pub join-answer : JoinAnswer → Answer
-join-answer (join.Refused n) = refused n
-join-answer join.Done = done
-
-abbrev pub line-answer : LineAnswer → Answer
-line-answer (line.Refused n) = refused n
-line-answer (line.LossesAdded l) = losses-added l
-
-abbrev pub measure-answer : MeasureAnswer → Answer
-measure-answer (measure.Refused n) = refused n
-measure-answer measure.Done = done
-
-abbrev pub allot-answer : AllotAnswer → Answer
-allot-answer (allot.Refused n) = refused n
-allot-answer allot.Done = done
-
-abbrev pub stand-in-answer : StandInAnswer → Answer
-stand-in-answer (stand-in.Refused n) = refused n
-stand-in-answer (stand-in.RowsLookedAt k) = rows-looked-at k
-
-abbrev pub revise-answer : ReviseAnswer → Answer
-revise-answer (revise.Refused n) = refused n
-revise-answer (revise.WithinTolerance R) = within-tolerance R
-revise-answer (revise.Assigned R) = revision-assigned R
-
-abbrev pub start-final-answer : StartFinalAnswer → Answer
-start-final-answer (start-final.Refused n) = refused n
-start-final-answer start-final.Done = done
+-- what each case of the code's enum stands for
+abbrev pub answer-of : code.Answer → Answer
+answer-of (is.Refused n) = refused n
+answer-of is.Done = done
+answer-of (is.LossesAdded l) = losses-added l
+answer-of (is.RowsLookedAt k) = rows-looked-at k
+answer-of (is.WithinTolerance R) = within-tolerance R
+answer-of (is.RevisionAssigned R) = revision-assigned R

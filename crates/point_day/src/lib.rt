@@ -1,6 +1,8 @@
+// The point-day: its limits, its state, what a call on it answers; the fresh point-day.
 ghost use mathlib.Core.Path.{_≡_};
 ghost use Rattle.point_day.specs.Day.{fresh};
-ghost use Rattle.point_day.specs.Struct.{laid};
+ghost use Rattle.point_day.specs.Answers.{refused, answer-of};
+ghost use Rattle.point_day.specs.Struct.{laid, outcome};
 
 // Limits of a point-day.
 pub const USERS: usize = 64;
@@ -56,77 +58,30 @@ pub struct StandInRows {
     pub amounts: [i64; PAIRS],
 }
 
-// The answers, refused with document 01's number.
-pub enum JoinAnswer {
+// What a call answers: refused with document 01's number, or the values that it names.
+pub enum Answer {
     Refused(u8),
     Done,
-}
-
-pub enum LineAnswer {
-    Refused(u8),
     LossesAdded(u64),
-}
-
-pub enum MeasureAnswer {
-    Refused(u8),
-    Done,
-}
-
-pub enum AllotAnswer {
-    Refused(u8),
-    Done,
-}
-
-pub enum StandInAnswer {
-    Refused(u8),
     RowsLookedAt(usize),
-}
-
-pub enum ReviseAnswer {
-    Refused(u8),
     WithinTolerance(i64),
-    Assigned(i64),
+    RevisionAssigned(i64),
 }
 
-pub enum StartFinalAnswer {
-    Refused(u8),
-    Done,
-}
-
-// Each call's answer, and the point-day afterwards.
-pub struct JoinResult {
-    pub answer: JoinAnswer,
+// A call's answer, and the point-day afterwards.
+pub struct Outcome {
+    pub answer: Answer,
     pub day: PointDay,
 }
 
-pub struct LineResult {
-    pub answer: LineAnswer,
-    pub day: PointDay,
-}
-
-pub struct MeasureResult {
-    pub answer: MeasureAnswer,
-    pub day: PointDay,
-}
-
-pub struct AllotResult {
-    pub answer: AllotAnswer,
-    pub day: PointDay,
-}
-
-pub struct StandInResult {
-    pub answer: StandInAnswer,
-    pub day: PointDay,
-}
-
-pub struct ReviseResult {
-    pub answer: ReviseAnswer,
-    pub day: PointDay,
-}
-
-pub struct StartFinalResult {
-    pub answer: StartFinalAnswer,
-    pub day: PointDay,
+// A refused call: the number, and the point-day as it was.
+pub fn refuse(number: u8, day: PointDay) -> Outcome
+    ensures { λ r. ⌜ outcome (answer-of (r .answer)) (r .day) ≡ outcome (refused number) day ⌝ }
+{
+    Outcome {
+        answer: Answer::Refused(number),
+        day: day,
+    }
 }
 
 // A fresh point-day.

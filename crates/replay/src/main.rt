@@ -10,170 +10,134 @@ use cursor::MOST_LENT;
 use inventory::InventoryAnswer;
 use libc::STDIN_FILENO;
 use libc::STDOUT_FILENO;
-use point_day::AllotAnswer;
-use point_day::JoinAnswer;
-use point_day::LineAnswer;
-use point_day::MeasureAnswer;
+use point_day::Answer;
 use point_day::Measurement;
+use point_day::Outcome;
 use point_day::PointDay;
-use point_day::ReviseAnswer;
 use point_day::Stage;
-use point_day::StandInAnswer;
-use point_day::StartFinalAnswer;
 use report_text::TEXT_ROOM;
 
 // The most bytes of input.
 const MOST: usize = 1048576;
 
 // The place after an operation, and the point-day after it.
-struct Outcome {
+struct After {
     next: Cursor,
     day: PointDay,
 }
 
+// ---- a call's outcome
+
+// Refused, or the call's name and its value.
+fn print_answer(name: &[u8], answer: Answer) {
+    match answer {
+        Answer::Refused(n) => output::refused(n),
+        Answer::Done => {
+            output::text(name);
+            output::end();
+        }
+        Answer::LossesAdded(l) => {
+            output::text(name);
+            output::number(l);
+            output::end();
+        }
+        Answer::RowsLookedAt(k) => {
+            output::text(name);
+            output::number(k as u64);
+            output::end();
+        }
+        Answer::WithinTolerance(x) => {
+            output::text(b"within");
+            output::amount(x);
+            output::end();
+        }
+        Answer::RevisionAssigned(x) => {
+            output::text(name);
+            output::amount(x);
+            output::end();
+        }
+    }
+}
+
+fn settle(name: &[u8], next: Cursor, r: Outcome) -> After {
+    let answer = r.answer;
+    let day = r.day;
+    print_answer(name, answer);
+    After { next, day }
+}
+
 // ---- fresh, join, line, measure
 
-fn fresh(next: Cursor) -> Outcome {
+fn fresh(next: Cursor) -> After {
     output::text(b"fresh\n");
-    Outcome {
+    After {
         next,
         day: point_day::fresh_day(),
     }
 }
 
-fn join(s: &[u8], from: Cursor, day: PointDay) -> Outcome {
+fn join(s: &[u8], from: Cursor, day: PointDay) -> After {
     let user = cursor::take_u16(s, from);
     let next = user.next;
     if !next.ok {
-        return Outcome { next, day };
+        return After { next, day };
     }
-    let r = entry::join(day, user.value as u16);
-    let after = r.day;
-    let answer = r.answer;
-    match answer {
-        JoinAnswer::Refused(n) => output::refused(n),
-        JoinAnswer::Done => output::text(b"join\n"),
-    }
-    Outcome { next, day: after }
+    settle(b"join", next, entry::join(day, user.value as u16))
 }
 
-fn print_line(name: &[u8], answer: LineAnswer) {
-    match answer {
-        LineAnswer::Refused(n) => output::refused(n),
-        LineAnswer::LossesAdded(l) => {
-            output::text(name);
-            output::number(l);
-            output::end();
-        }
-    }
-}
-
-fn line(s: &[u8], from: Cursor, day: PointDay) -> Outcome {
+fn line(s: &[u8], from: Cursor, day: PointDay) -> After {
     let a = input::take_line(s, from);
     let next = a.next;
     if !next.ok {
-        return Outcome { next, day };
+        return After { next, day };
     }
     let r = lines::line(day, a.user, a.kind, a.consumption, a.coefficient);
-    let after = r.day;
-    let answer = r.answer;
-    print_line(b"line", answer);
-    Outcome { next, day: after }
+    settle(b"line", next, r)
 }
 
-fn edit(s: &[u8], from: Cursor, day: PointDay) -> Outcome {
+fn edit(s: &[u8], from: Cursor, day: PointDay) -> After {
     let a = input::take_line(s, from);
     let next = a.next;
     if !next.ok {
-        return Outcome { next, day };
+        return After { next, day };
     }
     let r = lines::line_by_edit(day, a.user, a.kind, a.consumption, a.coefficient);
-    let after = r.day;
-    let answer = r.answer;
-    print_line(b"edit", answer);
-    Outcome { next, day: after }
+    settle(b"edit", next, r)
 }
 
-fn measure(s: &[u8], from: Cursor, day: PointDay) -> Outcome {
+fn measure(s: &[u8], from: Cursor, day: PointDay) -> After {
     let emission = cursor::take_u64(s, from);
     let downstream = cursor::take_u64(s, emission.next);
     let next = downstream.next;
     if !next.ok {
-        return Outcome { next, day };
+        return After { next, day };
     }
     let r = measurement::measure(day, emission.value, downstream.value);
-    let after = r.day;
-    let answer = r.answer;
-    match answer {
-        MeasureAnswer::Refused(n) => output::refused(n),
-        MeasureAnswer::Done => output::text(b"measure\n"),
-    }
-    Outcome { next, day: after }
+    settle(b"measure", next, r)
 }
 
 // ---- allot, stand-in, revise, start-final
 
-fn allot(next: Cursor, day: PointDay) -> Outcome {
-    let r = allotment::allot(day);
-    let after = r.day;
-    let answer = r.answer;
-    match answer {
-        AllotAnswer::Refused(n) => output::refused(n),
-        AllotAnswer::Done => output::text(b"allot\n"),
-    }
-    Outcome { next, day: after }
+fn allot(next: Cursor, day: PointDay) -> After {
+    settle(b"allot", next, allotment::allot(day))
 }
 
-fn revise(next: Cursor, day: PointDay) -> Outcome {
-    let r = revision::revise(day);
-    let after = r.day;
-    let answer = r.answer;
-    match answer {
-        ReviseAnswer::Refused(n) => output::refused(n),
-        ReviseAnswer::WithinTolerance(x) => {
-            output::text(b"within");
-            output::amount(x);
-            output::end();
-        }
-        ReviseAnswer::Assigned(x) => {
-            output::text(b"revise");
-            output::amount(x);
-            output::end();
-        }
-    }
-    Outcome { next, day: after }
+fn revise(next: Cursor, day: PointDay) -> After {
+    settle(b"revise", next, revision::revise(day))
 }
 
-fn stand_in(s: &[u8], from: Cursor, day: PointDay) -> Outcome {
+fn stand_in(s: &[u8], from: Cursor, day: PointDay) -> After {
     let taken = input::take_rows(s, from);
     let next = taken.next;
     if !next.ok {
-        return Outcome { next, day };
+        return After { next, day };
     }
     let fifteen = taken.rows;
-    let r = stand_in::stand_in(day, fifteen);
-    let after = r.day;
-    let answer = r.answer;
-    match answer {
-        StandInAnswer::Refused(n) => output::refused(n),
-        StandInAnswer::RowsLookedAt(k) => {
-            output::text(b"stand-in");
-            output::number(k as u64);
-            output::end();
-        }
-    }
-    Outcome { next, day: after }
+    settle(b"stand-in", next, stand_in::stand_in(day, fifteen))
 }
 
-fn start_final(next: Cursor, day: PointDay) -> Outcome {
-    let r = final_stage::start_final(day);
-    let after = r.day;
-    let answer = r.answer;
-    match answer {
-        StartFinalAnswer::Refused(n) => output::refused(n),
-        StartFinalAnswer::Done => output::text(b"start-final\n"),
-    }
-    Outcome { next, day: after }
+fn start_final(next: Cursor, day: PointDay) -> After {
+    settle(b"start-final", next, final_stage::start_final(day))
 }
 
 // ---- show
@@ -253,9 +217,9 @@ fn print_day(day: PointDay) {
     print_users(day);
 }
 
-fn show(next: Cursor, day: PointDay) -> Outcome {
+fn show(next: Cursor, day: PointDay) -> After {
     print_day(day);
-    Outcome { next, day }
+    After { next, day }
 }
 
 // ---- load
@@ -276,7 +240,7 @@ fn measurement_of(measured: u64, emission: u64, downstream: u64) -> Measurement 
 }
 
 // The arrays of a point-day.
-fn take_arrays(s: &[u8], from: Cursor, day: PointDay) -> Outcome {
+fn take_arrays(s: &[u8], from: Cursor, day: PointDay) -> After {
     let mut users = day.users;
     let mut consumption = day.consumption;
     let mut losses = day.losses;
@@ -295,10 +259,10 @@ fn take_arrays(s: &[u8], from: Cursor, day: PointDay) -> Outcome {
         revision,
         ..day
     };
-    Outcome { next, day: filled }
+    After { next, day: filled }
 }
 
-fn load(s: &[u8], from: Cursor, day: PointDay) -> Outcome {
+fn load(s: &[u8], from: Cursor, day: PointDay) -> After {
     let tag = cursor::at_most(cursor::take_u8(s, from), 2);
     let allotted = cursor::at_most(cursor::take_u8(s, tag.next), 1);
     let measured = cursor::at_most(cursor::take_u8(s, allotted.next), 1);
@@ -308,7 +272,7 @@ fn load(s: &[u8], from: Cursor, day: PointDay) -> Outcome {
     let arrays = take_arrays(s, count.next, day);
     let next = arrays.next;
     if !next.ok {
-        return Outcome { next, day };
+        return After { next, day };
     }
     let filled = arrays.day;
     let stage = stage_of(tag.value);
@@ -321,7 +285,7 @@ fn load(s: &[u8], from: Cursor, day: PointDay) -> Outcome {
         count: count.value as usize,
         ..filled
     };
-    Outcome { next, day: loaded }
+    After { next, day: loaded }
 }
 
 // ---- inventory and day file
@@ -343,7 +307,7 @@ fn print_inventory(day: PointDay, lent: &mut [i64]) {
     output::end();
 }
 
-fn inventory(s: &[u8], from: Cursor, day: PointDay) -> Outcome {
+fn inventory(s: &[u8], from: Cursor, day: PointDay) -> After {
     let length = cursor::at_most(cursor::take_u16(s, from), MOST_LENT as u64);
     let next = length.next;
     if next.ok {
@@ -351,7 +315,7 @@ fn inventory(s: &[u8], from: Cursor, day: PointDay) -> Outcome {
         let mut lent = cursor::lent_numbers();
         print_inventory(day, &mut lent[..m]);
     }
-    Outcome { next, day }
+    After { next, day }
 }
 
 // Room for the report. (A call, so that no proof sees its bytes one by one.)
@@ -368,7 +332,7 @@ fn print_report(file: &[u8]) {
 }
 
 // The report on the day file; the point-day of the run stays.
-fn day_file(s: &[u8], from: Cursor, day: PointDay) -> Outcome {
+fn day_file(s: &[u8], from: Cursor, day: PointDay) -> After {
     let length = cursor::take_u32(s, from);
     let start = length.next;
     let next = cursor::pass(s, start, length.value as usize);
@@ -377,13 +341,13 @@ fn day_file(s: &[u8], from: Cursor, day: PointDay) -> Outcome {
         let end = next.at;
         print_report(&s[at..end]);
     }
-    Outcome { next, day }
+    After { next, day }
 }
 
 // ---- the run
 
 // One operation: its byte and its arguments.
-fn step(s: &[u8], from: Cursor, day: PointDay) -> Outcome {
+fn step(s: &[u8], from: Cursor, day: PointDay) -> After {
     let operation = cursor::take_u8(s, from);
     let next = operation.next;
     let byte = operation.value;
@@ -401,7 +365,7 @@ fn step(s: &[u8], from: Cursor, day: PointDay) -> Outcome {
         10 => load(s, next, day),
         11 => inventory(s, next, day),
         12 => day_file(s, next, day),
-        _ => Outcome {
+        _ => After {
             next: cursor::failed(next.at),
             day,
         },

@@ -4,11 +4,11 @@ ghost use Rattle.numbers.specs.Lists.{both};
 ghost use Rattle.point_day.specs.Limits.{TOLERANCE};
 ghost use Rattle.point_day.specs.Day.{provisional};
 ghost use Rattle.point_day.specs.Calls.{within-tolerance, revise};
-ghost use Rattle.point_day.specs.Answers.{revise-answer};
+ghost use Rattle.point_day.specs.Answers.{answer-of};
 ghost use Rattle.point_day.specs.Struct.{outcome, called};
+use point_day::Answer;
+use point_day::Outcome;
 use point_day::PointDay;
-use point_day::ReviseAnswer;
-use point_day::ReviseResult;
 use point_day::Stage;
 use point_day::TOLERANCE;
 
@@ -23,25 +23,25 @@ fn is_revisable(stage: Stage, allotted: bool) -> bool
 }
 
 // The point-day as it was, and R.
-fn within(amount: i64, day: PointDay) -> ReviseResult
-    ensures { λ r. ⌜ outcome (revise-answer (r .answer)) (r .day) ≡ outcome (within-tolerance amount) day ⌝ }
+fn within(amount: i64, day: PointDay) -> Outcome
+    ensures { λ r. ⌜ outcome (answer-of (r .answer)) (r .day) ≡ outcome (within-tolerance amount) day ⌝ }
 {
-    ReviseResult {
-        answer: ReviseAnswer::WithinTolerance(amount),
+    Outcome {
+        answer: Answer::WithinTolerance(amount),
         day: day,
     }
 }
 
 // Revise: what net has over everything allotted, if outside tolerance, is added to the revisions.
-pub fn revise(day: PointDay) -> ReviseResult
-    ensures { λ r. ⌜ outcome (revise-answer (r .answer)) (r .day) ≡ called (revise TOLERANCE) day ⌝ }
+pub fn revise(day: PointDay) -> Outcome
+    ensures { λ r. ⌜ outcome (answer-of (r .answer)) (r .day) ≡ called (revise TOLERANCE) day ⌝ }
 {
     if !taken::is_taken(day) {
-        return assignment::refuse(2, day);
+        return point_day::refuse(2, day);
     }
     let stage = day.stage;
     if !is_revisable(stage, day.allotted) {
-        return assignment::refuse(1, day);
+        return point_day::refuse(1, day);
     }
     let column = outstanding::whole_column(day);
     let amount = outstanding::outstanding(day, column);
@@ -49,7 +49,7 @@ pub fn revise(day: PointDay) -> ReviseResult
         return within(amount, day);
     }
     if columns::any_negative(&column) {
-        return assignment::refuse(11, day);
+        return point_day::refuse(11, day);
     }
     assignment::assign(day, amount, column)
 }

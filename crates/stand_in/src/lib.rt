@@ -2,39 +2,39 @@
 ghost use mathlib.Core.Path.{_≡_};
 ghost use Rattle.point_day.specs.Limits.{TOLERANCE};
 ghost use Rattle.point_day.specs.Calls.{stand-in};
-ghost use Rattle.point_day.specs.Answers.{stand-in-answer};
+ghost use Rattle.point_day.specs.Answers.{answer-of};
 ghost use Rattle.point_day.specs.Struct.{rows-of, outcome, called};
+use point_day::Outcome;
 use point_day::PointDay;
 use point_day::ROWS;
-use point_day::StandInResult;
 use point_day::StandInRows;
 use point_day::TOLERANCE;
 
 // Stand-in: the users of the nearest row with any pair join, and net is prorated over them.
-pub fn stand_in(day: PointDay, rows: StandInRows) -> StandInResult
-    ensures { λ r. ⌜ outcome (stand-in-answer (r .answer)) (r .day) ≡ called (stand-in TOLERANCE (rows-of rows)) day ⌝ }
+pub fn stand_in(day: PointDay, rows: StandInRows) -> Outcome
+    ensures { λ r. ⌜ outcome (answer-of (r .answer)) (r .day) ≡ called (stand-in TOLERANCE (rows-of rows)) day ⌝ }
 {
     if !taken::is_taken(day) {
-        return opening::refuse(2, day);
+        return point_day::refuse(2, day);
     }
     let stage = day.stage;
     if !opening::is_open(stage, day.allotted, day.count) {
-        return opening::refuse(1, day);
+        return point_day::refuse(1, day);
     }
     if !stand_in_rows::rows_right(&rows.counts, &rows.users, &rows.amounts) {
-        return opening::refuse(2, day);
+        return point_day::refuse(2, day);
     }
     let measurement = day.measurement;
     if !state::is_measured(measurement) {
-        return opening::refuse(7, day);
+        return point_day::refuse(7, day);
     }
     let net = state::net(measurement);
     if net <= TOLERANCE {
-        return opening::refuse(9, day);
+        return point_day::refuse(9, day);
     }
     let row = stand_in_rows::nearest_filled(&rows.counts);
     if row == ROWS {
-        return opening::refuse(10, day);
+        return point_day::refuse(10, day);
     }
     opening::use_row(day, net, row, &rows.counts, &rows.users, &rows.amounts)
 }

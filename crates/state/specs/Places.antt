@@ -8,7 +8,7 @@ use lib.ListN.{length, take, getD}
 use Rattle.numbers.specs.Sums.{sumZ, atZ}
 use Rattle.numbers.specs.Lists.{has}
 use Rattle.numbers.specs.Amounts.{Within, Between}
-use Rattle.point_day.specs.Limits.{KINDS, USERS}
+use Rattle.point_day.specs.Limits.{KINDS, USERS, CELLS}
 use Rattle.point_day.specs.Struct.{none-below}
 use Rattle.point_day.specs.declared.PointDay.{PointDay}
 
@@ -28,6 +28,13 @@ ROOM = 10000000000
 
 abbrev pub Small : List ℤ → Type 0
 Small xs = (i : ℕ) → Within ROOM (atZ xs i)
+
+-- lists as long as a point-day's arrays
+pub record Lengths (cs ls bs rs : List ℤ) : Type 0 where
+  pub consumption : length cs ≡ CELLS
+  pub losses : length ls ≡ CELLS
+  pub balance : length bs ≡ CELLS
+  pub revision : length rs ≡ USERS
 
 -- a point-day whose whole amounts can be summed
 pub record Laid (d : PointDay) : Type 0 where

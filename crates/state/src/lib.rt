@@ -8,8 +8,7 @@ ghost use lib.ListN.{length, drop, replicate};
 ghost use Rattle.numbers.specs.Sums.{table, total};
 ghost use Rattle.point_day.specs.Limits.{USERS, CELLS, LIMIT};
 ghost use Rattle.point_day.specs.Day.{is-measured, net-of, emission-right, measurement-right, provisional};
-ghost use Rattle.state.specs.Places.{Placed, From, Small, cellZ, whole-at};
-use point_day::CELLS;
+ghost use Rattle.state.specs.Places.{Placed, From, Small, Lengths, cellZ, whole-at};
 use point_day::KINDS;
 use point_day::LIMIT;
 use point_day::Measurement;
@@ -32,21 +31,16 @@ pub fn slot_of(users: &[u16], count: usize, user: u16) -> usize
 }
 
 // All consumption and losses.
-pub fn offtake<'a>(consumption: &'a [i64; CELLS], losses: &'a [i64; CELLS]) -> u64
-    requires { ⌜ From 0 (pos 0) (pos LIMIT) (now consumption) × From 0 (pos 0) (pos LIMIT) (now losses) ⌝ }
+pub fn offtake<'a>(consumption: &'a [i64], losses: &'a [i64]) -> u64
+    requires { ⌜ From 0 (pos 0) (pos LIMIT) (now consumption) × From 0 (pos 0) (pos LIMIT) (now losses) × (length (now consumption) ≡ CELLS) × (length (now losses) ≡ CELLS) ⌝ }
     ensures { λ r. ⌜ r ≡ total (map natAbs (now (consumption .entry))) + total (map natAbs (now (losses .entry))) ⌝ }
 {
     (numbers::sum_of(consumption) + numbers::sum_of(losses)) as u64
 }
 
 // Consumption, losses and balance of a cell.
-fn cell_sum<'a>(
-    consumption: &'a [i64; CELLS],
-    losses: &'a [i64; CELLS],
-    balance: &'a [i64; CELLS],
-    i: usize,
-) -> i64
-    requires { ⌜ (i < CELLS) × Small (now consumption) × Small (now losses) × Small (now balance) ⌝ }
+fn cell_sum<'a>(consumption: &'a [i64], losses: &'a [i64], balance: &'a [i64], i: usize) -> i64
+    requires { ⌜ (i < CELLS) × Small (now consumption) × Small (now losses) × Small (now balance) × (length (now consumption) ≡ CELLS) × (length (now losses) ≡ CELLS) × (length (now balance) ≡ CELLS) ⌝ }
     ensures { λ r. ⌜ r ≡ cellZ (now (consumption .entry)) (now (losses .entry)) (now (balance .entry)) i ⌝ }
 {
     consumption[i] + losses[i] + balance[i]
@@ -54,13 +48,13 @@ fn cell_sum<'a>(
 
 // A user's whole amount.
 fn whole_amount<'a>(
-    consumption: &'a [i64; CELLS],
-    losses: &'a [i64; CELLS],
-    balance: &'a [i64; CELLS],
-    revision: &'a [i64; USERS],
+    consumption: &'a [i64],
+    losses: &'a [i64],
+    balance: &'a [i64],
+    revision: &'a [i64],
     slot: usize,
 ) -> i64
-    requires { ⌜ (slot < USERS) × Small (now consumption) × Small (now losses) × Small (now balance) × Small (now revision) ⌝ }
+    requires { ⌜ (slot < USERS) × Small (now consumption) × Small (now losses) × Small (now balance) × Small (now revision) × Lengths (now consumption) (now losses) (now balance) (now revision) ⌝ }
     ensures { λ r. ⌜ r ≡ whole-at (now (consumption .entry)) (now (losses .entry)) (now (balance .entry)) (now (revision .entry)) slot ⌝ }
 {
     let mut sum: i64 = 0;
@@ -74,14 +68,14 @@ fn whole_amount<'a>(
 
 // The whole amounts of n users; numbers of `wholes` past them stay.
 pub fn whole_amounts<'a>(
-    consumption: &'a [i64; CELLS],
-    losses: &'a [i64; CELLS],
-    balance: &'a [i64; CELLS],
-    revision: &'a [i64; USERS],
+    consumption: &'a [i64],
+    losses: &'a [i64],
+    balance: &'a [i64],
+    revision: &'a [i64],
     n: usize,
     wholes: &mut [i64],
 )
-    requires { ⌜ (n ≤ USERS) × (n ≤ length (now wholes)) × Small (now consumption) × Small (now losses) × Small (now balance) × Small (now revision) ⌝ }
+    requires { ⌜ (n ≤ USERS) × (n ≤ length (now wholes)) × Small (now consumption) × Small (now losses) × Small (now balance) × Small (now revision) × Lengths (now consumption) (now losses) (now balance) (now revision) ⌝ }
     ensures { λ _. ⌜ now (wholes .exit) ≡ table (whole-at (now (consumption .entry)) (now (losses .entry)) (now (balance .entry)) (now (revision .entry))) n ++ drop n (now (wholes .entry)) ⌝ }
 {
     let mut s = 0;

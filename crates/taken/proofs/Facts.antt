@@ -23,11 +23,12 @@ use Rattle.point_day.specs.declared.Measurement.{Measurement}
 use Rattle.point_day.specs.declared.PointDay.{PointDay}
 use Rattle.point_day.proofs.Taken.{Past, Taken, taken-facts, facts-taken}
 use Rattle.point_day.proofs.Back.{map-table, every-take, every-drop}
-use Rattle.state.specs.Places.{From, ROOM, Laid, whole-at}
+use Rattle.state.specs.Places.{From, ROOM, Small, Laid, Lengths, whole-at}
 use Rattle.state.proofs.Cells.{zero-between, between-zero, between-sign, low-size, nonneg-between, between-size, size-between, within-from, low-from}
 use Rattle.state.proofs.Totals.{kinds-long, offtake-is, whole-is, wholes-are}
 use Rattle.amount_ranges.specs.Ranges.{Cells, Arrays, Wholes}
-use Rattle.taken.specs.Standing.{Stands}
+use Rattle.taken.specs.Standing.{Stands, parts}
+use Rattle.point_day.specs.declared.Stage.{Stage}
 
 abbrev pub wholes-of : PointDay → ℕ → ℤ
 wholes-of d = whole-at (d .consumption) (d .losses) (d .balance) (d .revision)
@@ -253,6 +254,10 @@ module _ (d : PointDay) (z : Sized d) (t : Taken d) where
 pub facts : (d : PointDay) → Sized d → taken d ≡ true → Facts d
 facts d z e = facts-of d z (taken-facts d e)
 
+-- the lengths of the parts are those of the point-day
+pub parts-sized : (stage : Stage) {allotted : Bool} {m : Measurement} {n : ℕ} {us : List ℕ} {cs ls bs rs : List ℤ} → length us ≡ USERS → Lengths cs ls bs rs → Sized (parts stage allotted m n us cs ls bs rs)
+parts-sized stage u l = record { users = u; consumption = l .consumption; losses = l .losses; balance = l .balance; revision = l .revision }
+
 -- ---- what the code's tests say
 
 pub untaken : (d : PointDay) → Sized d → (Facts d → ⊥) → false ≡ taken d
@@ -268,13 +273,21 @@ taken-by d z false y n = untaken d z (n refl)
 
 -- ---- what the calls use
 
+pub small-parts : {n : ℕ} {cs ls bs rs : List ℤ} → Arrays n cs ls bs rs → Small cs × Small ls × Small bs × Small rs
+small-parts {cs = cs} {ls = ls} {bs = bs} {rs = rs} a = (
+  low-from LIMIT cs (a .consumption .range) ROOM (omega arith),
+  low-from LIMIT ls (a .losses .range) ROOM (omega arith),
+  within-from AMOUNT bs (λ i l q. between-size (atZ bs i) (a .balance .range i l q)) ROOM (omega arith),
+  within-from AMOUNT rs (λ i l q. between-size (atZ rs i) (a .revision .range i l q)) ROOM (omega arith),
+)
+
 pub laid-day : (d : PointDay) → Sized d → d .count ≤ USERS → Arrays (d .count) (d .consumption) (d .losses) (d .balance) (d .revision) → Laid d
 laid-day d z l a = record {
   few = l;
-  consumption = low-from LIMIT (d .consumption) (a .consumption .range) ROOM (omega arith);
-  losses = low-from LIMIT (d .losses) (a .losses .range) ROOM (omega arith);
-  balance = within-from AMOUNT (d .balance) (λ i l q. between-size (atZ (d .balance) i) (a .balance .range i l q)) ROOM (omega arith);
-  revision = within-from AMOUNT (d .revision) (λ i l q. between-size (atZ (d .revision) i) (a .revision .range i l q)) ROOM (omega arith);
+  consumption = small-parts a .0;
+  losses = small-parts a .1;
+  balance = small-parts a .2;
+  revision = small-parts a .3;
   above = signs-right (d .consumption) (a .consumption .range);
   above-losses = signs-right (d .losses) (a .losses .range);
 }

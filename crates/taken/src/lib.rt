@@ -2,13 +2,15 @@
 ghost use mathlib.Core.Path.{_≡_};
 ghost use Prim.Native.Nat.{_≤_};
 ghost use lib.IntN.{pos};
+ghost use lib.ListN.{length};
 ghost use Rattle.numbers.specs.Amounts.{Decides};
 ghost use Rattle.point_day.specs.Limits.{USERS};
 ghost use Rattle.point_day.specs.Day.{measurement-right, too-large};
 ghost use Rattle.point_day.specs.Struct.{Sized, read, taken};
-ghost use Rattle.state.specs.Places.{From, Small, Laid, whole-at};
+ghost use Rattle.state.specs.Places.{From, Small, Laid, Lengths, whole-at};
 ghost use Rattle.amount_ranges.specs.Ranges.{Wholes};
-ghost use Rattle.taken.specs.Standing.{Stands};
+ghost use Rattle.taken.specs.Standing.{Stands, parts};
+ghost use Rattle.point_day.specs.declared.Stage.{Stage};
 use amount_ranges::GREATEST;
 use amount_ranges::LEAST;
 use point_day::CELLS;
@@ -28,7 +30,7 @@ fn measurement_right(measurement: Measurement) -> bool
 }
 
 // Whether there is neither a balance nor a revision.
-fn nothing_allotted<'a>(balance: &'a [i64; CELLS], revision: &'a [i64; USERS]) -> bool
+fn nothing_allotted<'a>(balance: &'a [i64], revision: &'a [i64]) -> bool
     ensures { λ r. ⌜ Decides r (From 0 (pos 0) (pos 0) (now (balance .entry)) × From 0 (pos 0) (pos 0) (now (revision .entry))) ⌝ }
 {
     if !numbers::all_between(balance, 0, 0, 0) {
@@ -42,8 +44,8 @@ fn stands<'a>(
     allotted: bool,
     count: usize,
     measurement: Measurement,
-    balance: &'a [i64; CELLS],
-    revision: &'a [i64; USERS],
+    balance: &'a [i64],
+    revision: &'a [i64],
 ) -> bool
     ensures { λ r. ⌜ Decides r (Stands allotted count measurement (now (balance .entry)) (now (revision .entry))) ⌝ }
 {
@@ -58,13 +60,13 @@ fn stands<'a>(
 
 // Whether the whole amounts of n users, and their sum, are in range.
 fn wholes_stand<'a>(
-    consumption: &'a [i64; CELLS],
-    losses: &'a [i64; CELLS],
-    balance: &'a [i64; CELLS],
-    revision: &'a [i64; USERS],
+    consumption: &'a [i64],
+    losses: &'a [i64],
+    balance: &'a [i64],
+    revision: &'a [i64],
     n: usize,
 ) -> bool
-    requires { ⌜ (n ≤ USERS) × Small (now consumption) × Small (now losses) × Small (now balance) × Small (now revision) ⌝ }
+    requires { ⌜ (n ≤ USERS) × Small (now consumption) × Small (now losses) × Small (now balance) × Small (now revision) × Lengths (now consumption) (now losses) (now balance) (now revision) ⌝ }
     ensures { λ r. ⌜ Decides r (Wholes n (whole-at (now (consumption .entry)) (now (losses .entry)) (now (balance .entry)) (now (revision .entry)))) ⌝ }
 {
     let mut wholes = state::no_amounts();
@@ -79,47 +81,69 @@ fn sized(day: PointDay) -> bool
     true
 }
 
-// Whether the point-day is taken: the count first, then each number, then sums, so that nothing overflows on any values.
-fn passes_tests(day: PointDay) -> bool
-    ensures { λ r. ⌜ r ≡ taken day ⌝ }
+// The tests of a point-day in parts: the count first, then each number, then sums, so that nothing overflows on any values.
+fn tests_pass<'a>(
+    allotted: bool,
+    measurement: Measurement,
+    n: usize,
+    users: &'a [u16],
+    consumption: &'a [i64],
+    losses: &'a [i64],
+    balance: &'a [i64],
+    revision: &'a [i64],
+) -> bool
+    requires { ⌜ (length (now users) ≡ USERS) × Lengths (now consumption) (now losses) (now balance) (now revision) ⌝ }
+    ensures { λ r. ⌜ ((stage : Stage) → r ≡ taken (parts stage allotted measurement n (now (users .entry)) (now (consumption .entry)) (now (losses .entry)) (now (balance .entry)) (now (revision .entry)))) ⌝ }
 {
-    let sizes = sized(day);
-    let n = day.count;
     if USERS < n {
         return false;
     }
-    if !user_numbers::none_past(&day.users, n) {
+    if !user_numbers::none_past(users, n) {
         return false;
     }
-    if !user_numbers::numbers_right(&day.users, n) {
+    if !user_numbers::numbers_right(users, n) {
         return false;
     }
-    if !amount_ranges::arrays_right(
-        &day.consumption,
-        &day.losses,
-        &day.balance,
-        &day.revision,
-        n,
-    ) {
+    if !amount_ranges::arrays_right(consumption, losses, balance, revision, n) {
         return false;
     }
-    let measurement = day.measurement;
     if !measurement_right(measurement) {
         return false;
     }
-    if LIMIT < state::offtake(&day.consumption, &day.losses) {
+    if LIMIT < state::offtake(consumption, losses) {
         return false;
     }
-    if !wholes_stand(
-        &day.consumption,
-        &day.losses,
-        &day.balance,
-        &day.revision,
+    if !wholes_stand(consumption, losses, balance, revision, n) {
+        return false;
+    }
+    stands(allotted, n, measurement, balance, revision)
+}
+
+// Whether a point-day in parts is taken, at any stage. The parts are fields of a point-day by value, or parts of a longer list; their
+// lengths are told to the compiler.
+pub fn parts_taken<'a>(
+    allotted: bool,
+    measurement: Measurement,
+    n: usize,
+    users: &'a [u16],
+    consumption: &'a [i64],
+    losses: &'a [i64],
+    balance: &'a [i64],
+    revision: &'a [i64],
+) -> bool
+    requires { ⌜ (length (now users) ≡ USERS) × Lengths (now consumption) (now losses) (now balance) (now revision) ⌝ }
+    ensures { λ r. ⌜ ((stage : Stage) → r ≡ taken (parts stage allotted measurement n (now (users .entry)) (now (consumption .entry)) (now (losses .entry)) (now (balance .entry)) (now (revision .entry)))) ⌝ }
+{
+    tests_pass(
+        allotted,
+        measurement,
         n,
-    ) {
-        return false;
-    }
-    stands(day.allotted, n, measurement, &day.balance, &day.revision)
+        &users[..USERS],
+        &consumption[..CELLS],
+        &losses[..CELLS],
+        &balance[..CELLS],
+        &revision[..USERS],
+    )
 }
 
 // Whether the point-day is taken; its arrays have their lengths in either case.
@@ -127,7 +151,16 @@ pub fn is_taken(day: PointDay) -> bool
     ensures { λ r. ⌜ (r ≡ taken day) × Sized day ⌝ }
 {
     let sizes = sized(day);
-    passes_tests(day)
+    parts_taken(
+        day.allotted,
+        day.measurement,
+        day.count,
+        &day.users,
+        &day.consumption,
+        &day.losses,
+        &day.balance,
+        &day.revision,
+    )
 }
 
 // Refusal 12: whether a whole amount is too large.

@@ -39,9 +39,9 @@ returns-4 : tie.Need-returns-4
 returns-4 c =
     record {
       yes = λ q. record {
-        consumption = c .before .before .before .before .before .before .before .before .before .cells-right .ensures .yes (not-false _ (c .before .before .before .before .before .before .before .before .if1 .left));
-        losses = c .before .before .before .before .before .before .cells-right2 .ensures .yes (not-false _ (c .before .before .before .before .before .if2 .left));
-        balance = c .before .before .before .cells-right3 .ensures .yes (not-false _ (c .before .before .if3 .left));
+        consumption = c .before .before .before .before .before .before .cells-right .ensures .yes (not-false _ (c .before .before .before .before .before .if1 .left));
+        losses = c .before .before .before .before .cells-right2 .ensures .yes (not-false _ (c .before .before .before .if2 .left));
+        balance = c .before .before .cells-right3 .ensures .yes (not-false _ (c .before .if3 .left));
         revision = c .cells-right4 .ensures .yes q;
       };
       no = λ q P. c .cells-right4 .ensures .no q (P .revision);

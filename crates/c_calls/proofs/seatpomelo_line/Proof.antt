@@ -6,7 +6,7 @@ use mir.Val.{SFits}
 use mir.Facts.{toZ-ofZ}
 use borrow.Author.Tests.{not-true, not-false}
 use Rattle.point_day.specs.Calls.{refused, losses-added, line}
-use Rattle.point_day.specs.Answers.{line-answer}
+use Rattle.point_day.specs.Answers.{answer-of}
 use Rattle.point_day.specs.Struct.{outcome, called}
 use Rattle.plain_day.specs.Layout.{is-laid-out, numbers-of}
 use Rattle.plain_calls.specs.Plain.{plain}
@@ -59,7 +59,7 @@ returns-2 c =
     let xs = s .args .day .now in
     let m = c .before .before .before .before .line in
     let a = c .before .answer .given in
-    laid-out (called (line (s .args .user) (s .args .kind) (s .args .consumption) (s .args .coefficient))) xs (sym (c .before .before .before .before .before .before .before .before .is-laid-out .ensures) ∙ not-false _ (c .before .before .before .before .before .before .before .if1 .left)) (c .before .before .before .before .before .day-in .ensures) (refused (a .0 .0)) (m .result .day) (ap (λ x. outcome (line-answer x) (m .result .day)) (sym (a .1)) ∙ m .ensures)
+    laid-out (called (line (s .args .user) (s .args .kind) (s .args .consumption) (s .args .coefficient))) xs (sym (c .before .before .before .before .before .before .before .before .is-laid-out .ensures) ∙ not-false _ (c .before .before .before .before .before .before .before .if1 .left)) (c .before .before .before .before .before .day-in .ensures) (refused (a .0 .0)) (m .result .day) (ap (λ x. outcome (answer-of x) (m .result .day)) (sym (a .1)) ∙ m .ensures)
 
 same-length-3 : tie.Need-same-length-3
 same-length-3 c = search needs
@@ -73,7 +73,7 @@ returns-3 c =
     let v = c .before .before .to-signed in
     let h : SFits w64 (v .result) = search needs in
     ap₂ plain (c .before .write .ensures .0) ((rw (toZ-ofZ h) at (c .before .write .ensures .1)) ∙ ap (λ z. numbers-of z (m .result .day)) (v .ensures))
-    ∙ laid-out (called (line (s .args .user) (s .args .kind) (s .args .consumption) (s .args .coefficient))) xs (sym (c .before .before .before .before .before .before .before .before .before .before .before .before .is-laid-out .ensures) ∙ not-false _ (c .before .before .before .before .before .before .before .before .before .before .before .if1 .left)) (c .before .before .before .before .before .before .before .before .before .day-in .ensures) (losses-added (a .0 .0)) (m .result .day) (ap (λ x. outcome (line-answer x) (m .result .day)) (sym (a .1)) ∙ m .ensures)
+    ∙ laid-out (called (line (s .args .user) (s .args .kind) (s .args .consumption) (s .args .coefficient))) xs (sym (c .before .before .before .before .before .before .before .before .before .before .before .before .is-laid-out .ensures) ∙ not-false _ (c .before .before .before .before .before .before .before .before .before .before .before .if1 .left)) (c .before .before .before .before .before .before .before .before .before .day-in .ensures) (losses-added (a .0 .0)) (m .result .day) (ap (λ x. outcome (answer-of x) (m .result .day)) (sym (a .1)) ∙ m .ensures)
 
 pub seatpomelo-line-spec : {M : Type 1} → statement M
 seatpomelo-line-spec =

@@ -7,7 +7,7 @@ use mir.Facts.{toZ-ofZ}
 use borrow.Author.Tests.{not-true, not-false}
 use Rattle.point_day.specs.Limits.{TOLERANCE}
 use Rattle.point_day.specs.Calls.{refused, within-tolerance, revision-assigned, revise}
-use Rattle.point_day.specs.Answers.{revise-answer}
+use Rattle.point_day.specs.Answers.{answer-of}
 use Rattle.point_day.specs.Struct.{outcome, called}
 use Rattle.plain_day.specs.Layout.{is-laid-out}
 use Rattle.plain_calls.specs.Plain.{plain}
@@ -65,7 +65,7 @@ returns-2 c =
     let xs = s .args .day .now in
     let m = c .before .before .before .before .revise in
     let a = c .before .answer .given in
-    laid-out (called (revise TOLERANCE)) xs (sym (c .before .before .before .before .before .before .before .before .is-laid-out .ensures) ∙ not-false _ (c .before .before .before .before .before .before .before .if1 .left)) (c .before .before .before .before .before .day-in .ensures) (refused (a .0 .0)) (m .result .day) (ap (λ x. outcome (revise-answer x) (m .result .day)) (sym (a .1)) ∙ m .ensures)
+    laid-out (called (revise TOLERANCE)) xs (sym (c .before .before .before .before .before .before .before .before .is-laid-out .ensures) ∙ not-false _ (c .before .before .before .before .before .before .before .if1 .left)) (c .before .before .before .before .before .day-in .ensures) (refused (a .0 .0)) (m .result .day) (ap (λ x. outcome (answer-of x) (m .result .day)) (sym (a .1)) ∙ m .ensures)
 
 same-length-3 : tie.Need-same-length-3
 same-length-3 c = search needs
@@ -78,7 +78,7 @@ returns-3 c =
     let a = c .before .before .before .before .answer2 .given in
     let h : SFits w64 (a .0 .0) = search needs in
     ap₂ plain (c .before .write .ensures .0) (rw (toZ-ofZ h) at (c .before .write .ensures .1))
-    ∙ laid-out (called (revise TOLERANCE)) xs (sym (c .before .before .before .before .before .before .before .before .before .before .before .is-laid-out .ensures) ∙ not-false _ (c .before .before .before .before .before .before .before .before .before .before .if1 .left)) (c .before .before .before .before .before .before .before .before .day-in .ensures) (within-tolerance (a .0 .0)) (m .result .day) (ap (λ x. outcome (revise-answer x) (m .result .day)) (sym (a .1)) ∙ m .ensures)
+    ∙ laid-out (called (revise TOLERANCE)) xs (sym (c .before .before .before .before .before .before .before .before .before .before .before .is-laid-out .ensures) ∙ not-false _ (c .before .before .before .before .before .before .before .before .before .before .if1 .left)) (c .before .before .before .before .before .before .before .before .day-in .ensures) (within-tolerance (a .0 .0)) (m .result .day) (ap (λ x. outcome (answer-of x) (m .result .day)) (sym (a .1)) ∙ m .ensures)
 
 same-length-4 : tie.Need-same-length-4
 same-length-4 c = search needs
@@ -91,7 +91,7 @@ returns-4 c =
     let a = c .before .before .before .before .answer3 .given in
     let h : SFits w64 (a .0 .0) = search needs in
     ap₂ plain (c .before .write2 .ensures .0) (rw (toZ-ofZ h) at (c .before .write2 .ensures .1))
-    ∙ laid-out (called (revise TOLERANCE)) xs (sym (c .before .before .before .before .before .before .before .before .before .before .before .is-laid-out .ensures) ∙ not-false _ (c .before .before .before .before .before .before .before .before .before .before .if1 .left)) (c .before .before .before .before .before .before .before .before .day-in .ensures) (revision-assigned (a .0 .0)) (m .result .day) (ap (λ x. outcome (revise-answer x) (m .result .day)) (sym (a .1)) ∙ m .ensures)
+    ∙ laid-out (called (revise TOLERANCE)) xs (sym (c .before .before .before .before .before .before .before .before .before .before .before .is-laid-out .ensures) ∙ not-false _ (c .before .before .before .before .before .before .before .before .before .before .if1 .left)) (c .before .before .before .before .before .before .before .before .day-in .ensures) (revision-assigned (a .0 .0)) (m .result .day) (ap (λ x. outcome (answer-of x) (m .result .day)) (sym (a .1)) ∙ m .ensures)
 
 pub seatpomelo-revise-spec : {M : Type 1} → statement M
 seatpomelo-revise-spec =

@@ -7,7 +7,7 @@ use mir.Facts.{toZ-ofZ}
 use borrow.Author.Tests.{not-true, not-false}
 use Rattle.point_day.specs.Limits.{TOLERANCE}
 use Rattle.point_day.specs.Calls.{refused, rows-looked-at, stand-in}
-use Rattle.point_day.specs.Answers.{stand-in-answer}
+use Rattle.point_day.specs.Answers.{answer-of}
 use Rattle.point_day.specs.Struct.{outcome, called, rows-of}
 use Rattle.plain_day.specs.Layout.{is-laid-out, numbers-of}
 use Rattle.plain_calls.specs.Plain.{plain, rows-in}
@@ -65,7 +65,7 @@ returns-2 c =
     let a = c .before .answer .given in
     let d = c .before .before .before .before .before .day-in in
     let o = m .ensures ∙ ap (λ r. called (stand-in TOLERANCE (rows-of r)) (d .result)) (c .before .before .before .before .before .before .before .rows-in .ensures) in
-    laid-out (called (stand-in TOLERANCE (rows-of (rows-in (s .args .counts .now) (s .args .users .now) (s .args .amounts .now))))) xs (sym (c .before .before .before .before .before .before .before .before .before .is-laid-out .ensures) ∙ not-false _ (c .before .before .before .before .before .before .before .before .if1 .left)) (d .ensures) (refused (a .0 .0)) (m .result .day) (ap (λ x. outcome (stand-in-answer x) (m .result .day)) (sym (a .1)) ∙ o)
+    laid-out (called (stand-in TOLERANCE (rows-of (rows-in (s .args .counts .now) (s .args .users .now) (s .args .amounts .now))))) xs (sym (c .before .before .before .before .before .before .before .before .before .is-laid-out .ensures) ∙ not-false _ (c .before .before .before .before .before .before .before .before .if1 .left)) (d .ensures) (refused (a .0 .0)) (m .result .day) (ap (λ x. outcome (answer-of x) (m .result .day)) (sym (a .1)) ∙ o)
 
 same-length-3 : tie.Need-same-length-3
 same-length-3 c = search needs
@@ -81,7 +81,7 @@ returns-3 c =
     let d = c .before .before .before .before .before .before .before .before .before .day-in in
     let o = m .ensures ∙ ap (λ r. called (stand-in TOLERANCE (rows-of r)) (d .result)) (c .before .before .before .before .before .before .before .before .before .before .before .rows-in .ensures) in
     ap₂ plain (c .before .write .ensures .0) ((rw (toZ-ofZ h) at (c .before .write .ensures .1)) ∙ ap (λ z. numbers-of z (m .result .day)) (v .ensures))
-    ∙ laid-out (called (stand-in TOLERANCE (rows-of (rows-in (s .args .counts .now) (s .args .users .now) (s .args .amounts .now))))) xs (sym (c .before .before .before .before .before .before .before .before .before .before .before .before .before .is-laid-out .ensures) ∙ not-false _ (c .before .before .before .before .before .before .before .before .before .before .before .before .if1 .left)) (d .ensures) (rows-looked-at (a .0 .0)) (m .result .day) (ap (λ x. outcome (stand-in-answer x) (m .result .day)) (sym (a .1)) ∙ o)
+    ∙ laid-out (called (stand-in TOLERANCE (rows-of (rows-in (s .args .counts .now) (s .args .users .now) (s .args .amounts .now))))) xs (sym (c .before .before .before .before .before .before .before .before .before .before .before .before .before .is-laid-out .ensures) ∙ not-false _ (c .before .before .before .before .before .before .before .before .before .before .before .before .if1 .left)) (d .ensures) (rows-looked-at (a .0 .0)) (m .result .day) (ap (λ x. outcome (answer-of x) (m .result .day)) (sym (a .1)) ∙ o)
 
 pub seatpomelo-stand-in-spec : {M : Type 1} → statement M
 seatpomelo-stand-in-spec =

@@ -29,10 +29,10 @@ add-i : tie.Need-add-i
 add-i c = search needs
 
 add-at-requires : tie.Need-add-at-requires
-add-at-requires c κs = search needs
+add-at-requires c κs = (search needs, search needs, c .before .before .before .pre .1 .0 _)
 
 add-at-requires-2 : tie.Need-add-at-requires-2
-add-at-requires-2 c κs = search needs
+add-at-requires-2 c κs = (search needs, search needs, c .before .before .before .before .before .pre .1 .1 _)
 
 returns-2 : tie.Need-returns-2
 returns-2 c =

@@ -41,17 +41,17 @@ use denote.Triple.Walked.{says, Stays, stay-none, walkOf, AllGo, goes-none, Walk
 use denote.Triple.Clauses.{ensured, lasts}
 use denote.Exit.{yes}
 use Rattle.point_day.specs.Calls.{line}
-use Rattle.point_day.specs.Answers.{line-answer}
+use Rattle.point_day.specs.Answers.{answer-of}
 use Rattle.point_day.specs.Struct.{outcome, called}
 use Rattle.point_day.specs.declared.PointDay.{PointDay}
 use Rattle.point_day.proofs.PointDay as T0
 use Rattle.point_day.proofs.PointDay.Laws as T0′
-use Rattle.point_day.specs.declared.LineResult.{LineResult}
-use Rattle.point_day.proofs.LineResult as T1
-use Rattle.point_day.proofs.LineResult.Laws as T1′
-use Rattle.point_day.specs.declared.LineAnswer.{LineAnswer}
-use Rattle.point_day.proofs.LineAnswer as T2
-use Rattle.point_day.proofs.LineAnswer.Laws as T2′
+use Rattle.point_day.specs.declared.Outcome.{Outcome}
+use Rattle.point_day.proofs.Outcome as T1
+use Rattle.point_day.proofs.Outcome.Laws as T1′
+use Rattle.point_day.specs.declared.Answer.{Answer}
+use Rattle.point_day.proofs.Answer as T2
+use Rattle.point_day.proofs.Answer.Laws as T2′
 use Rattle.lines.proofs.line_lent as callee
 use Rattle.lines.proofs.line_lent.Symbol as callee-def
 use Rattle.lines.proofs.line_lent.Symbol.{name as #callee}
@@ -71,21 +71,21 @@ day-vals = LL.vals T0.the-type T0′.the-laws
 abbrev day-val : PointDay → Val
 day-val = LL.val T0.the-type T0′.the-laws
 
-abbrev ans-vals : LineAnswer → List Val
+abbrev ans-vals : Answer → List Val
 ans-vals = EL.vals T2.the-type T2′.the-laws
 
 -- the result, and its machine value
-abbrev made : LineAnswer → PointDay → LineResult
+abbrev made : Answer → PointDay → Outcome
 made r d = record { answer = r; day = d }
 
-abbrev made-val : LineAnswer → PointDay → Val
+abbrev made-val : Answer → PointDay → Val
 made-val r d = LL.val T1.the-type T1′.the-laws (made r d)
 
-is-made : (r : LineAnswer) (d : PointDay) → Is T2.the-row r (ans-vals r) → Is T0.the-row d (day-vals d) → Is T1.the-row (made r d) (made-val r d ∷ [])
+is-made : (r : Answer) (d : PointDay) → Is T2.the-row r (ans-vals r) → Is T0.the-row d (day-vals d) → Is T1.the-row (made r d) (made-val r d ∷ [])
 is-made r d isa isd = LL.owes T1.the-type T1′.the-laws (made r d) (isa, (isd, tt))
 
 -- an answer's relation at its spelled values
-spelled : (r : LineAnswer) (v : Val) → Is T2.the-row r (v ∷ []) → Is T2.the-row r (ans-vals r)
+spelled : (r : Answer) (v : Val) → Is T2.the-row r (v ∷ []) → Is T2.the-row r (ans-vals r)
 spelled r v is = subst (Is T2.the-row r) (EL.tells T2.the-type T2′.the-laws r (v ∷ []) is) is
 
 -- a state's cell is what a borrow of it holds, and back
@@ -121,7 +121,7 @@ module _ {M : Type 1} (𝓤 : URA M) (H : Heap 𝓤) (A : Atoms 𝓤) (W : Given
   abbrev Post : Val → SProp 𝓤
   Post = walkOf 𝓤 H A edit.ended stayed (edit.clauses 𝓤 H A at-mem run) .post ((tt, tt, tt, x, at), tt)
 
-  exits : (r : LineAnswer) (d : PointDay) → outcome (line-answer r) d ≡ called (line p1 p2 p3 p4) h → Is T2.the-row r (ans-vals r) → Is T0.the-row d (day-vals d)
+  exits : (r : Answer) (d : PointDay) → outcome (answer-of r) d ≡ called (line p1 p2 p3 p4) h → Is T2.the-row r (ans-vals r) → Is T0.the-row d (day-vals d)
       → ent 𝓤 (sem 𝓤 H A (owns (T0.the-row ∷ u16 ∷ u8 ∷ u64 ∷ u64 ∷ []) x at)) (Post (made-val r d))
   exits r d e isa isd =
       qed W (‵ (owns (T0.the-row ∷ u16 ∷ u8 ∷ u64 ∷ u64 ∷ []) x at) ∷ []) ∵
@@ -145,13 +145,13 @@ module _ {M : Type 1} (𝓤 : URA M) (H : Heap 𝓤) (A : Atoms 𝓤) (W : Given
       move ! (2 ∷ 0 ∷ []) $ fjoin ! $ move ! (1 ∷ 0 ∷ []) $ join ! $ frame ! $ done !
 
   -- what the callee ensures: its answer fits the state that it leaves
-  told : (b ν : ℕ) (δ : GName) (r : LineAnswer) → ent 𝓤 (ensured 𝓤 H A callee.ended (callee.clauses 𝓤 H A at-mem run) (ν ∷ [], tt) (lent-day b δ, (p1, (p2, (p3, (p4, tt))))) tt r)
-      (ex 𝓤 (λ (d : PointDay). guard 𝓤 (outcome (line-answer r) d ≡ called (line p1 p2 p3 p4) h) (A .res δ (T0.the-row .coded .code d))))
+  told : (b ν : ℕ) (δ : GName) (r : Answer) → ent 𝓤 (ensured 𝓤 H A callee.ended (callee.clauses 𝓤 H A at-mem run) (ν ∷ [], tt) (lent-day b δ, (p1, (p2, (p3, (p4, tt))))) tt r)
+      (ex 𝓤 (λ (d : PointDay). guard 𝓤 (outcome (answer-of r) d ≡ called (line p1 p2 p3 p4) h) (A .res δ (T0.the-row .coded .code d))))
   told b ν δ r =
       qed W (raw (ensured 𝓤 H A callee.ended (callee.clauses 𝓤 H A at-mem run) (ν ∷ [], tt) (lent-day b δ, (p1, (p2, (p3, (p4, tt))))) tt r) ∷ []) ∵
-      use1 W (some (λ (ws : PointDay × (Unit {0} × (Unit {0} × (Unit {0} × (Unit {0} × Unit {0}))))). ‵ (lasts callee.ended (ν ∷ [], tt) (lent-day b δ, (p1, (p2, (p3, (p4, tt))))) ws) ⊛ raw (fact 𝓤 (outcome (line-answer r) (ws .0) ≡ called (line p1 p2 p3 p4) h)))) (id⊢ 𝓤 _) $ pick ! (λ ws.
-      split ! $ move ! (1 ∷ []) $ heard ! (outcome (line-answer r) (ws .0) ≡ called (line p1 p2 p3 p4) h) (λ e. fsplit ! $
-      show ! (λ (d : PointDay). guard 𝓤 (outcome (line-answer r) d ≡ called (line p1 p2 p3 p4) h) (A .res δ (T0.the-row .coded .code d))) (ws .0) $ check ! e $ keep ! (0 ∷ []) $ done !))
+      use1 W (some (λ (ws : PointDay × (Unit {0} × (Unit {0} × (Unit {0} × (Unit {0} × Unit {0}))))). ‵ (lasts callee.ended (ν ∷ [], tt) (lent-day b δ, (p1, (p2, (p3, (p4, tt))))) ws) ⊛ raw (fact 𝓤 (outcome (answer-of r) (ws .0) ≡ called (line p1 p2 p3 p4) h)))) (id⊢ 𝓤 _) $ pick ! (λ ws.
+      split ! $ move ! (1 ∷ []) $ heard ! (outcome (answer-of r) (ws .0) ≡ called (line p1 p2 p3 p4) h) (λ e. fsplit ! $
+      show ! (λ (d : PointDay). guard 𝓤 (outcome (answer-of r) d ≡ called (line p1 p2 p3 p4) h) (A .res δ (T0.the-row .coded .code d))) (ws .0) $ check ! e $ keep ! (0 ∷ []) $ done !))
 
   module _ (C : Calls 𝓤 H) (Λ : Loops 𝓤 H) (fm : FmC 𝓤 H (W .laws) C) (known : Triple 𝓤 (C #callee) (Callee 𝓤 H A at-mem run)) where
     walk : ent 𝓤 (onEntry 𝓤 H A edit.signature tt tt x at) (WpFn 𝓤 H C Λ code.function (day-val h ∷ vint w16 p1 ∷ vint w8 p2 ∷ vint w64 p3 ∷ vint w64 p4 ∷ []) Post)
@@ -167,8 +167,8 @@ module _ {M : Type 1} (𝓤 : URA M) (H : Heap 𝓤) (A : Atoms 𝓤) (W : Given
         use1 W (later (some (λ (δ : GName). ‵ (ref-own l6 ν δ) ⊛ ‵ (flent (ν ∷ []) (Body (mem T0.the-row) l6 0 δ))))) (lends-ref 𝓤 H A W T0.the-row (named 0) (ν ∷ []) h l6 0) $ await ! tt $ pick ! (λ δ. split ! $
         move ! (2 ∷ 0 ∷ []) $ use2 W (raw (Callee 𝓤 H A at-mem run .pre (to-callee l6 ν δ))) (goes-in l6 ν δ) $
         calls-at ! fm (Callee 𝓤 H A at-mem run) known (to-callee l6 ν δ) (and-then ! (load ! (from ! (stop !)) (look ! 4 refl)) (and-then ! (load ! (from ! (stop !)) (look ! 15 refl)) (and-then ! (load ! (from ! (stop !)) (look ! 13 refl)) (and-then ! (load ! (from ! (stop !)) (look ! 11 refl)) (and-then ! (load ! (from ! (stop !)) (look ! 9 refl)) (no-more !)))))) (λ v.
-        use1 W (later (some (λ (r : LineAnswer). ((‵ (flft (ν ∷ []) fullShare) ⊛ ‵ ftrue) ⊛ ‵ (T2.the-row .own r (v ∷ []))) ⊛ raw (ensured 𝓤 H A callee.ended (callee.clauses 𝓤 H A at-mem run) (ν ∷ [], tt) (lent-day l6 δ, (p1, (p2, (p3, (p4, tt))))) tt r)))) (id⊢ 𝓤 _) $ await ! tt $ pick ! (λ r.
-        split ! $ move ! (1 ∷ []) $ use1 W (some (λ (d : PointDay). given (outcome (line-answer r) d ≡ called (line p1 p2 p3 p4) h) (‵ (fres δ (T0.the-row .coded .code d))))) (told l6 ν δ r) $ pick ! (λ d. learn ! (λ e.
+        use1 W (later (some (λ (r : Answer). ((‵ (flft (ν ∷ []) fullShare) ⊛ ‵ ftrue) ⊛ ‵ (T2.the-row .own r (v ∷ []))) ⊛ raw (ensured 𝓤 H A callee.ended (callee.clauses 𝓤 H A at-mem run) (ν ∷ [], tt) (lent-day l6 δ, (p1, (p2, (p3, (p4, tt))))) tt r)))) (id⊢ 𝓤 _) $ await ! tt $ pick ! (λ r.
+        split ! $ move ! (1 ∷ []) $ use1 W (some (λ (d : PointDay). given (outcome (answer-of r) d ≡ called (line p1 p2 p3 p4) h) (‵ (fres δ (T0.the-row .coded .code d))))) (told l6 ν δ r) $ pick ! (λ d. learn ! (λ e.
         move ! (1 ∷ []) $ split ! $ move ! (1 ∷ []) $ peeks ! T2.the-row (Is T2.the-row) (shows 𝓤 H A T2.the-row) r (v ∷ []) (λ is.
         -- [what the answer owns; the token and true; the last value; the lender's part; the copy for the result; …; the reference; …; room for answer; …]
         land ! (from ! (stop !)) (init ! 8 refl (EL.lawful T2.the-type T2′.the-laws 𝓤 H A W tt .typed r _ is .0)) $ rewrite ! 8 (λ (w : Val). ‵ (fat fullShare T2′.mir l7 0 w)) (ap only (EL.tells T2.the-type T2′.the-laws r (v ∷ []) is)) refl $

@@ -40,16 +40,16 @@ use denote.Triple.Walked.{says, Stays, stay-ref, stay-none, walkOf, AllGo, goes-
 use denote.Triple.Clauses.{ensured, lasts}
 use denote.Exit.{yes}
 use Rattle.point_day.specs.Calls.{line}
-use Rattle.point_day.specs.Answers.{line-answer}
+use Rattle.point_day.specs.Answers.{answer-of}
 use Rattle.point_day.specs.Struct.{outcome, called}
 use Rattle.point_day.specs.declared.PointDay.{PointDay}
 use Rattle.point_day.proofs.PointDay as T0
 use Rattle.point_day.proofs.PointDay.Laws as T0′
-use Rattle.point_day.specs.declared.LineResult.{LineResult}
-use Rattle.point_day.proofs.LineResult as T1
-use Rattle.point_day.proofs.LineResult.Laws as T1′
-use Rattle.point_day.proofs.LineAnswer as T2
-use Rattle.point_day.proofs.LineAnswer.Laws as T2′
+use Rattle.point_day.specs.declared.Outcome.{Outcome}
+use Rattle.point_day.proofs.Outcome as T1
+use Rattle.point_day.proofs.Outcome.Laws as T1′
+use Rattle.point_day.proofs.Answer as T2
+use Rattle.point_day.proofs.Answer.Laws as T2′
 use Rattle.lines.proofs.line as callee
 use Rattle.lines.proofs.line.Symbol as callee-def
 use Rattle.lines.proofs.line.Symbol.{name as #callee}
@@ -66,7 +66,7 @@ stayed = (stay-ref (0 ∷ []) tt (plain (λ _. T0.the-row)), (stay-none (λ _. u
 abbrev day-vals : PointDay → List Val
 day-vals = LL.vals T0.the-type T0′.the-laws
 
-abbrev ans-vals : LineResult → List Val
+abbrev ans-vals : Outcome → List Val
 ans-vals r = EL.vals T2.the-type T2′.the-laws (r .answer)
 
 module _ {M : Type 1} (𝓤 : URA M) (H : Heap 𝓤) (A : Atoms 𝓤) (at-mem : Memory → SProp 𝓤) (run : Routine → Fun 𝓤) where
@@ -74,8 +74,8 @@ module _ {M : Type 1} (𝓤 : URA M) (H : Heap 𝓤) (A : Atoms 𝓤) (at-mem : 
   abbrev Callee : Contract 𝓤
   Callee = tripleOf 𝓤 H A callee.signature (callee.spec 𝓤 H A at-mem run)
 
-  ensured-of : (h : PointDay) (p1 : ℕ) (p2 : ℕ) (p3 : ℕ) (p4 : ℕ) (r : LineResult) → ent 𝓤 (ensured 𝓤 H A callee.ended (callee.clauses 𝓤 H A at-mem run) tt (h, (p1, (p2, (p3, (p4, tt))))) tt r) (fact 𝓤 (outcome (line-answer (r .answer)) (r .day) ≡ called (line p1 p2 p3 p4) h))
-  ensured-of h p1 p2 p3 p4 r = exE 𝓤 _ (λ ws. snd∗ 𝓤 (sem 𝓤 H A (lasts callee.ended tt (h, (p1, (p2, (p3, (p4, tt))))) ws)) (fact 𝓤 (outcome (line-answer (r .answer)) (r .day) ≡ called (line p1 p2 p3 p4) h)))
+  ensured-of : (h : PointDay) (p1 : ℕ) (p2 : ℕ) (p3 : ℕ) (p4 : ℕ) (r : Outcome) → ent 𝓤 (ensured 𝓤 H A callee.ended (callee.clauses 𝓤 H A at-mem run) tt (h, (p1, (p2, (p3, (p4, tt))))) tt r) (fact 𝓤 (outcome (answer-of (r .answer)) (r .day) ≡ called (line p1 p2 p3 p4) h))
+  ensured-of h p1 p2 p3 p4 r = exE 𝓤 _ (λ ws. snd∗ 𝓤 (sem 𝓤 H A (lasts callee.ended tt (h, (p1, (p2, (p3, (p4, tt))))) ws)) (fact 𝓤 (outcome (answer-of (r .answer)) (r .day) ≡ called (line p1 p2 p3 p4) h)))
 
 module _ {M : Type 1} (𝓤 : URA M) (H : Heap 𝓤) (A : Atoms 𝓤) (W : Given 𝓤 H A) (at-mem : Memory → SProp 𝓤) (run : Routine → Fun 𝓤) (κ : Lft) (q : Share) (b o : ℕ) (γ : GName) (h : PointDay) (p1 : ℕ) (p2 : ℕ) (p3 : ℕ) (p4 : ℕ) (g1 : Is u16 p1 (vint w16 p1 ∷ [])) (g2 : Is u8 p2 (vint w8 p2 ∷ [])) (g3 : Is u64 p3 (vint w64 p3 ∷ [])) (g4 : Is u64 p4 (vint w64 p4 ∷ [])) where
   abbrev x : RefT PointDay × (ℕ × (ℕ × (ℕ × (ℕ × Unit {0}))))
@@ -90,7 +90,7 @@ module _ {M : Type 1} (𝓤 : URA M) (H : Heap 𝓤) (A : Atoms 𝓤) (W : Given
   abbrev Post : Val → SProp 𝓤
   Post = walkOf 𝓤 H A lent.ended stayed (lent.clauses 𝓤 H A at-mem run) .post (((κ, tt), (q, tt), tt, x, at), tt)
 
-  exits : (r : LineResult) → outcome (line-answer (r .answer)) (r .day) ≡ called (line p1 p2 p3 p4) h → Is T2.the-row (r .answer) (ans-vals r)
+  exits : (r : Outcome) → outcome (answer-of (r .answer)) (r .day) ≡ called (line p1 p2 p3 p4) h → Is T2.the-row (r .answer) (ans-vals r)
       → ent 𝓤 (sep 𝓤 (A .obs γ (T0.the-row .coded .code (r .day))) (sep 𝓤 (A .bor κ (Body (mem T0.the-row) b o γ)) (A .lft κ q))) (Post (only (ans-vals r)))
   exits r e isa =
       qed W (‵ (fobs γ (T0.the-row .coded .code (r .day))) ∷ ‵ (fbor κ (Body (mem T0.the-row) b o γ)) ∷ ‵ (flft κ q) ∷ []) ∵
@@ -120,8 +120,8 @@ module _ {M : Type 1} (𝓤 : URA M) (H : Heap 𝓤) (A : Atoms 𝓤) (W : Given
         assigns ! (of-opd ! (load ! (from ! (hop ! (look ! 19 refl) (stop !))) (look-raw ! 0 refl))) (from ! (stop !)) (init ! 7 refl (LL.lawful T0.the-type T0′.the-laws 𝓤 H A W .typed h _ g .0)) $
         move ! (1 ∷ 6 ∷ []) $ use2 W (raw (Callee 𝓤 H A at-mem run .pre to-callee)) goes-in $
         calls-at ! fm (Callee 𝓤 H A at-mem run) known to-callee (and-then ! (load ! (from ! (stop !)) (look ! 6 refl)) (and-then ! (load ! (from ! (stop !)) (look ! 16 refl)) (and-then ! (load ! (from ! (stop !)) (look ! 14 refl)) (and-then ! (load ! (from ! (stop !)) (look ! 12 refl)) (and-then ! (load ! (from ! (stop !)) (look ! 10 refl)) (no-more !)))))) (λ v.
-        use1 W (later (some (λ (r : LineResult). (‵ ftrue ⊛ ‵ (T1.the-row .own r (v ∷ []))) ⊛ raw (ensured 𝓤 H A callee.ended (callee.clauses 𝓤 H A at-mem run) tt (h, (p1, (p2, (p3, (p4, tt))))) tt r)))) (id⊢ 𝓤 _) $ await ! tt $ pick ! (λ r.
-        split ! $ move ! (1 ∷ []) $ use1 W (raw (fact 𝓤 (outcome (line-answer (r .answer)) (r .day) ≡ called (line p1 p2 p3 p4) h))) (ensured-of 𝓤 H A at-mem run h p1 p2 p3 p4 r) $ heard ! (outcome (line-answer (r .answer)) (r .day) ≡ called (line p1 p2 p3 p4) h) (λ e. split ! $ drop ! $
+        use1 W (later (some (λ (r : Outcome). (‵ ftrue ⊛ ‵ (T1.the-row .own r (v ∷ []))) ⊛ raw (ensured 𝓤 H A callee.ended (callee.clauses 𝓤 H A at-mem run) tt (h, (p1, (p2, (p3, (p4, tt))))) tt r)))) (id⊢ 𝓤 _) $ await ! tt $ pick ! (λ r.
+        split ! $ move ! (1 ∷ []) $ use1 W (raw (fact 𝓤 (outcome (answer-of (r .answer)) (r .day) ≡ called (line p1 p2 p3 p4) h))) (ensured-of 𝓤 H A at-mem run h p1 p2 p3 p4 r) $ heard ! (outcome (answer-of (r .answer)) (r .day) ≡ called (line p1 p2 p3 p4) h) (λ e. split ! $ drop ! $
         peeks ! T1.the-row (Is T1.the-row) (shows 𝓤 H A T1.the-row) r (v ∷ []) (λ is.
         land ! (from ! (stop !)) (init ! 8 refl (LL.lawful T1.the-type T1′.the-laws 𝓤 H A W .typed r _ is .0)) $ rewrite ! 8 (λ (w : Val). ‵ (fat fullShare T1′.mir l6 0 w)) (ap only (LL.tells T1.the-type T1′.the-laws r (v ∷ []) is)) refl $
         -- [what the result owns; the state's cell; the open borrow; obs; auth; true; the copy; …; r; …; the parameters, the last first; room for the answer; …]

@@ -13,12 +13,15 @@ slice-aggregate-whole-amounts c = search needs
 
 whole-amounts-requires : tie.Need-whole-amounts-requires
 whole-amounts-requires c κs =
-    let d = c .before .before .before .before .before .before .before .args .t1 in
-    let s = summable d (c .before .before .before .before .before .before .before .pre .1) (c .before .before .before .before .before .before .before .pre .0) in
-    (s .few, omega (arith, s .few), s .consumption, s .losses, s .balance, s .revision)
+    let p = c .before .before .before .before .before .before .before .before .before .before .before .pre in
+    let z = p .1 in
+    let s = summable (c .before .before .before .before .before .before .before .before .before .before .before .args .t1) z (p .0) in
+    (s .few, omega (arith, s .few), s .consumption, s .losses, s .balance, s .revision, record { consumption = z .consumption; losses = z .losses; balance = z .balance; revision = z .revision })
 
 returns : tie.Need-returns
-returns c = wholes-read (c .before .before .before .before .before .before .before .before .before .args .t1) (c .before .before .before .before .before .before .before .before .before .pre .1) (c .before .before .before .before .before .before .before .before .before .pre .0) (c .before .before .before .before .before .before .before .before .no-amounts .ensures) (c .before .whole-amounts .ensures)
+returns c =
+    let s = c .before .before .before .before .before .before .before .before .before .before .before .before .before in
+    wholes-read (s .args .t1) (s .pre .1) (s .pre .0) (c .before .before .before .before .before .before .before .before .before .before .before .before .no-amounts .ensures) (c .before .whole-amounts .ensures)
 
 pub whole-column-spec : {M : Type 1} → statement M
 whole-column-spec =

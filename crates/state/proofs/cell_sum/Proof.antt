@@ -7,14 +7,14 @@ use Rattle.state.proofs.cell_sum.Tie as tie
 mul-result : tie.Need-mul-result
 mul-result c = search needs
 
-element-copy-out-result : tie.Need-element-copy-out-result
-element-copy-out-result c = search needs
+shared-slice-copy-out-result : tie.Need-shared-slice-copy-out-result
+shared-slice-copy-out-result c = search needs
 
 mul-result-2 : tie.Need-mul-result-2
 mul-result-2 c = search needs
 
-element-copy-out-result-2 : tie.Need-element-copy-out-result-2
-element-copy-out-result-2 c = search needs
+shared-slice-copy-out-result-2 : tie.Need-shared-slice-copy-out-result-2
+shared-slice-copy-out-result-2 c = search needs
 
 add-result : tie.Need-add-result
 add-result c = two-fits _ _ (c .before .before .pre .1 (c .before .before .args .i)) (c .before .before .pre .2 (c .before .before .args .i))
@@ -22,8 +22,8 @@ add-result c = two-fits _ _ (c .before .before .pre .1 (c .before .before .args 
 mul-result-3 : tie.Need-mul-result-3
 mul-result-3 c = search needs
 
-element-copy-out-result-3 : tie.Need-element-copy-out-result-3
-element-copy-out-result-3 c = search needs
+shared-slice-copy-out-result-3 : tie.Need-shared-slice-copy-out-result-3
+shared-slice-copy-out-result-3 c = search needs
 
 add-result-2 : tie.Need-add-result-2
 add-result-2 c = three-fits _ _ (c .before .before .before .pre .1 (c .before .before .before .args .i)) (c .before .before .before .pre .2 (c .before .before .before .args .i)) _ (c .before .before .before .pre .3 (c .before .before .before .args .i))
@@ -36,11 +36,11 @@ cell-sum-spec =
     tie.close
     (tie.spec
     mul-result
-    element-copy-out-result
+    shared-slice-copy-out-result
     mul-result-2
-    element-copy-out-result-2
+    shared-slice-copy-out-result-2
     add-result
     mul-result-3
-    element-copy-out-result-3
+    shared-slice-copy-out-result-3
     add-result-2
     returns)

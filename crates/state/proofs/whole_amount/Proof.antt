@@ -30,7 +30,9 @@ add-cell-sum : tie.Need-add-cell-sum Inv-loop μ-loop
 add-cell-sum c = search needs
 
 cell-sum-requires : tie.Need-cell-sum-requires Inv-loop μ-loop
-cell-sum-requires c κs = (omega arith, c .before .before .pre .1, c .before .before .pre .2, c .before .before .pre .3)
+cell-sum-requires c κs =
+    let p = c .before .before .pre in
+    (omega arith, p .1, p .2, p .3, p .5 .consumption, p .5 .losses, p .5 .balance)
 
 add-sum : tie.Need-add-sum Inv-loop μ-loop
 add-sum c =
@@ -59,8 +61,8 @@ loop-again c =
 mul-result : tie.Need-mul-result Inv-loop μ-loop
 mul-result c = search needs
 
-element-copy-out-result : tie.Need-element-copy-out-result Inv-loop μ-loop
-element-copy-out-result c = search needs
+shared-slice-copy-out-result : tie.Need-shared-slice-copy-out-result Inv-loop μ-loop
+shared-slice-copy-out-result c = search needs
 
 add-result : tie.Need-add-result Inv-loop μ-loop
 add-result c =
@@ -101,6 +103,6 @@ whole-amount-spec =
     loop-less
     loop-again
     mul-result
-    element-copy-out-result
+    shared-slice-copy-out-result
     add-result
     returns)

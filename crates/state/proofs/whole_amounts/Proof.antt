@@ -22,7 +22,7 @@ loop-holds : tie.Need-loop-holds Inv-loop μ-loop
 loop-holds c = (omega arith, fill-none _ _)
 
 whole-amount-requires : tie.Need-whole-amount-requires Inv-loop μ-loop
-whole-amount-requires c κs = (omega arith, c .before .before .pre .2, c .before .before .pre .3, c .before .before .pre .4, c .before .before .pre .5)
+whole-amount-requires c κs = (omega arith, c .before .before .pre .2, c .before .before .pre .3, c .before .before .pre .4, c .before .before .pre .5, c .before .before .pre .6)
 
 mul-t10 : tie.Need-mul-t10 Inv-loop μ-loop
 mul-t10 c = search needs

@@ -23,16 +23,17 @@ slice-aggregate-whole-amounts c = search needs
 
 whole-amounts-requires : tie.Need-whole-amounts-requires
 whole-amounts-requires c κs =
-    let p = c .before .before .before .before .before .before .before .before .pre in
-    let long = ap length (c .before .before .before .before .before .before .no-amounts .ensures) ∙ length-replicate 64 (pos 0) in
-    (p .few, omega (arith, p .few, long), p .consumption, p .losses, p .balance, p .revision)
+    let p = c .before .before .before .before .before .before .before .before .before .before .before .before .pre in
+    let z = c .before .before .before .before .before .before .before .before .before .before .before .sized .ensures in
+    let long = ap length (c .before .before .before .before .before .before .before .before .before .before .no-amounts .ensures) ∙ length-replicate 64 (pos 0) in
+    (p .few, omega (arith, p .few, long), p .consumption, p .losses, p .balance, p .revision, record { consumption = z .consumption; losses = z .losses; balance = z .balance; revision = z .revision })
 
 array-share-prefix-wholes : tie.Need-array-share-prefix-wholes
 array-share-prefix-wholes c = search needs
 
 slice-aggregate-all-between : tie.Need-slice-aggregate-all-between
 slice-aggregate-all-between c =
-    let s = c .before .before .before .before .before .before .before .before .before .before .before in
+    let s = c .before .before .before .before .before .before .before .before .before .before .before .before .before .before .before in
     let d = s .args .t1 in
     let f = whole-at (d .consumption) (d .losses) (d .balance) (d .revision) in
     let xs = take (d .count) (c .before .before .whole-amounts .last .1 .1 .1 .1 .1 .0) in
@@ -44,12 +45,12 @@ all-between-requires c κs = search needs
 
 returns : tie.Need-returns
 returns c =
-    let s = c .before .before .before .before .before .before .before .before .before .before .before .before in
+    let s = c .before .before .before .before .before .before .before .before .before .before .before .before .before .before .before .before in
     let d = s .args .t1 in
     let f = whole-at (d .consumption) (d .losses) (d .balance) (d .revision) in
     let xs = take (d .count) (c .before .before .before .whole-amounts .last .1 .1 .1 .1 .1 .0) in
     let e : xs ≡ table f (d .count) = ap (take (d .count)) (c .before .before .before .whole-amounts .ensures) ∙ take-at (table f (d .count)) _ (d .count) (length-table f (d .count)) in
-    too-large-by d (c .before .before .before .before .before .before .before .before .before .before .before .sized .ensures) (s .pre) xs e _ (c .all-between .ensures)
+    too-large-by d (c .before .before .before .before .before .before .before .before .before .before .before .before .before .before .before .sized .ensures) (s .pre) xs e _ (c .all-between .ensures)
 
 pub any-too-large-spec : {M : Type 1} → statement M
 any-too-large-spec =

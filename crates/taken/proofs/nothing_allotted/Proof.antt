@@ -16,9 +16,9 @@ all-between-requires-2 c κs = search needs
 
 returns-2 : tie.Need-returns-2
 returns-2 c =
-    let first = c .before .before .before .all-between .ensures in
+    let first = c .before .before .all-between .ensures in
     let second = c .all-between2 .ensures in
-    record { yes = λ q. (first .yes (not-false _ (c .before .before .if1 .left)), second .yes q); no = λ q P. second .no q (P .1) }
+    record { yes = λ q. (first .yes (not-false _ (c .before .if1 .left)), second .yes q); no = λ q P. second .no q (P .1) }
 
 pub nothing-allotted-spec : {M : Type 1} → statement M
 nothing-allotted-spec =
