@@ -6,6 +6,8 @@ use Prim.Native.Nat.{ℕ}
 use native.Mathlib.Omega.{arith}
 use lib.IntN.{ℤ, pos}
 use lib.ListN.{length, replicate, length-replicate}
+use types.Run.{OneOf, miss}
+use denote.Enum.Declared.{tagOf}
 use Rattle.numbers.specs.Sums.{table, total}
 use Rattle.numbers.specs.Lists.{distinct, flat}
 use Rattle.point_day.specs.Limits.{USERS, CELLS}
@@ -15,15 +17,16 @@ use Rattle.point_day.specs.Answers.{answer-of}
 use Rattle.point_day.specs.Struct.{Sized, read, padded, laid, taken, outcome, called}
 use Rattle.point_day.specs.declared.Stage.the-variants.{Provisional}
 use Rattle.point_day.specs.declared.Measurement.{Measurement}
-use Rattle.point_day.specs.declared.AllotAnswer.{AllotAnswer}
-use Rattle.point_day.specs.declared.AllotAnswer.the-variants.{Refused, Done}
+use Rattle.point_day.specs.declared.Answer.{Answer}
+use Rattle.point_day.specs.declared.Answer.the-variants.{Refused, Done, LossesAdded, RowsLookedAt, WithinTolerance, RevisionAssigned}
 use Rattle.point_day.specs.declared.PointDay.{PointDay}
+use Rattle.point_day.proofs.Answer as code
 use Rattle.point_day.proofs.Good.{bare-good, taken-good}
-use Rattle.day_book.specs.Run.{allot}
+use Rattle.day_book.specs.Run.{allot, verdict-of}
 use Rattle.file_form.specs.Form.{sections}
 use Rattle.day_file.specs.File.{section-calls}
 use Rattle.wire.specs.Text.{written}
-use Rattle.day_file.specs.Report.{Report, refused, allotted, in-order}
+use Rattle.day_file.specs.Report.{Report, refused, allotted, unless-refused, in-order}
 use Rattle.day_file.specs.Text.{text}
 use Rattle.file_entry.specs.Entering.{entering, Entered, Comes-to, unjoined}
 use Rattle.file_lines.specs.declared.Entry.{Entry}
@@ -43,13 +46,22 @@ reported out e p q = (p ∙ ap (λ t. length (text t)) e, q ∙ ap (λ t. writte
 
 -- ---- allot
 
-module _ (p q : PointDay) (a : AllotAnswer) (h : outcome (answer-of a) q ≡ called calls.allot p) where
+-- an answer of another case than the first is no refusal
+no-refusal : (a : Answer) → OneOf (1 ∷ 2 ∷ 3 ∷ 4 ∷ 5 ∷ []) (tagOf code.the-type a) → verdict-of (answer-of a) ≡ calls.accept
+no-refusal (Refused n) o = absurd (miss (1 ∷ 2 ∷ 3 ∷ 4 ∷ 5 ∷ []) 0 tt o)
+no-refusal Done o = refl
+no-refusal (LossesAdded l) o = refl
+no-refusal (RowsLookedAt k) o = refl
+no-refusal (WithinTolerance R) o = refl
+no-refusal (RevisionAssigned R) o = refl
+
+module _ (p q : PointDay) (a : Answer) (h : outcome (answer-of a) q ≡ called calls.allot p) where
   pub allot-refused : (n : ℕ) → a ≡ Refused n → (g : ℕ) → refused n ≡ in-order g (allot ∷ []) p
   allot-refused n e g = sym (step g allot [] p (ap (λ b. outcome (answer-of b) q) (sym e) ∙ h))
 
-  pub allot-done : a ≡ Done → (g : ℕ) → allotted g (read q) ≡ in-order g (allot ∷ []) p
+  pub allot-done : OneOf (1 ∷ 2 ∷ 3 ∷ 4 ∷ 5 ∷ []) (tagOf code.the-type a) → (g : ℕ) → allotted g (read q) ≡ in-order g (allot ∷ []) p
   unfolding in-order
-  allot-done e g = sym (step g allot [] p (ap (λ b. outcome (answer-of b) q) (sym e) ∙ h))
+  allot-done o g = sym (step g allot [] p h ∙ ap (λ v. unless-refused v (allotted g (read q))) (no-refusal a o))
 
   pub allot-taken : Sized p → taken p ≡ true → p .allotted ≡ false → taken q ≡ true
   allot-taken z t e = outcome-taken p z t e allot h

@@ -17,7 +17,7 @@ ghost use Rattle.refusal_text.specs.Room.{TEXT-ROOM};
 ghost use Rattle.file_allotment.specs.Entered.{entered-and-allotted};
 use file_form::PAIR_COUNT;
 use file_lines::Entry;
-use point_day::AllotAnswer;
+use point_day::Answer;
 use point_day::CELLS;
 use point_day::Measurement;
 use point_day::PointDay;
@@ -33,8 +33,8 @@ fn finish(out: &mut [u8], gas_day: u64, day: PointDay) -> usize
     let allotted = allotment::allot_taken(day);
     let answer = allotted.answer;
     match answer {
-        AllotAnswer::Refused(number) => refusal_text::put_refused(out, number),
-        AllotAnswer::Done => {
+        Answer::Refused(number) => refusal_text::put_refused(out, number),
+        _ => {
             let day = allotted.day;
             report_text::put_allotted(out, gas_day, day)
         }

@@ -14,26 +14,36 @@ enum-known-answer c = search needs
 put-refused-requires : tie.Need-put-refused-requires
 put-refused-requires c κs = search needs
 
-enum-told : tie.Need-enum-told
-enum-told c = search needs
-
 put-allotted-requires : tie.Need-put-allotted-requires
 put-allotted-requires c κs =
-    let z : Sized (c .before .before .before .before .before .before .args .day) = search needs in
-    let w : Sized (c .before .before .before .before .allot-taken .result .day) = search needs in
-    (c .before .before .before .before .before .before .pre .0, allot-taken (c .before .before .before .before .before .before .args .day) (c .before .before .before .before .allot-taken .result .day) (c .before .before .before .before .allot-taken .result .answer) (c .before .before .before .before .allot-taken .ensures) z (c .before .before .before .before .before .before .pre .2) (c .before .before .before .before .before .before .pre .3), w, c .before .before .before .before .before .before .pre .1)
+    let z : Sized (c .before .before .before .before .before .args .day) = search needs in
+    let w : Sized (c .before .before .before .allot-taken .result .day) = search needs in
+    let s = c .before .before .before .before .before in
+    let d = s .args .day in
+    let m = c .before .before .before .allot-taken in
+    (s .pre .0, allot-taken d (m .result .day) (m .result .answer) (m .ensures) z (s .pre .2) (s .pre .3), w, s .pre .1)
 
 same-length : tie.Need-same-length
 same-length c = search needs
 
 returns : tie.Need-returns
-returns c = reported (c .before .before .before .before .before .before .before .before .before .args .out .now) (allot-refused (c .before .before .before .before .before .before .before .before .before .args .day) (c .before .before .before .before .before .before .before .allot-taken .result .day) (c .before .before .before .before .before .before .before .allot-taken .result .answer) (c .before .before .before .before .before .before .before .allot-taken .ensures) (c .before .before .before .before .before .answer .given .0 .0) (c .before .before .before .before .before .answer .given .1) (c .before .before .before .before .before .before .before .before .before .args .gas-day)) (c .before .before .put-refused .ensures .0) (c .before .before .put-refused .ensures .1)
+returns c =
+    let s = c .before .before .before .before .before .before .before .before .before in
+    let m = c .before .before .before .before .before .before .before .allot-taken in
+    let a = c .before .before .before .before .before .answer .given in
+    reported (s .args .out .now) (allot-refused (s .args .day) (m .result .day) (m .result .answer) (m .ensures) (a .0 .0) (a .1) (s .args .gas-day))
+    (c .before .before .put-refused .ensures .0) (c .before .before .put-refused .ensures .1)
 
 same-length-2 : tie.Need-same-length-2
 same-length-2 c = search needs
 
 returns-2 : tie.Need-returns-2
-returns-2 c = reported (c .before .before .before .before .before .before .before .before .before .args .out .now) (allot-done (c .before .before .before .before .before .before .before .before .before .args .day) (c .before .before .before .before .before .before .before .allot-taken .result .day) (c .before .before .before .before .before .before .before .allot-taken .result .answer) (c .before .before .before .before .before .before .before .allot-taken .ensures) (c .before .before .before .before .before .enum-told .given .1) (c .before .before .before .before .before .before .before .before .before .args .gas-day)) (c .before .before .put-allotted .ensures .0) (c .before .before .put-allotted .ensures .1)
+returns-2 c =
+    let s = c .before .before .before .before .before .before .before .before in
+    let m = c .before .before .before .before .before .before .allot-taken in
+    let k = c .before .before .before .before .before .match .keys2 in
+    reported (s .args .out .now) (allot-done (s .args .day) (m .result .day) (m .result .answer) (m .ensures) k (s .args .gas-day))
+    (c .before .before .put-allotted .ensures .0) (c .before .before .put-allotted .ensures .1)
 
 pub finish-spec : {M : Type 1} → statement M
 finish-spec =
@@ -42,7 +52,6 @@ finish-spec =
     allot-taken-requires
     enum-known-answer
     put-refused-requires
-    enum-told
     put-allotted-requires
     same-length
     returns
