@@ -17,6 +17,7 @@ use Rattle.numbers.proofs.Sums.{lt-or-ge, length-table, getD-table}
 use Rattle.numbers.proofs.Lists.{All, both-fst, both-snd, all-append, all-map, all-zip, map-zip, zip-length}
 use Rattle.proration.specs.Proration.{prorateZ}
 use Rattle.proration.proofs.Signs.{lengthZ}
+use Rattle.point_day.specs.Fields.{same-fields}
 use Rattle.point_day.specs.Limits.{USERS, CELLS, LIMIT}
 use Rattle.point_day.specs.Day.{User, Day, numbers, net-of, is-measured, some, emission-right, measurement-right, too-large}
 use Rattle.point_day.specs.Calls.{refused, done, of-estimated, by-basis, none-estimated, or-kind-1, kinds, day-balance, user-shares, with-share, balanced, allotted-with, allot}
@@ -147,17 +148,17 @@ module _ (d : PointDay) (z : Sized d) (ok : taken d ≡ true) where
     next-day : with-balances (padded CELLS (pos 0) (all-balances (emission - downstream) (d .consumption) (d .losses) (d .users) (d .count))) d
         ≡ laid (allotted-with (balanced (read d)) (read d))
     unfolding laid
-    next-day = λ i. record {
-      stage = stage i;
-      allotted = true;
-      measurement = measurement i;
-      count = count i;
-      users = users i;
-      consumption = consumption i;
-      losses = losses i;
-      balance = padded CELLS (pos 0) (cells-day i);
-      revision = revision i;
-    }
+    next-day = same-fields (record {
+      stage = stage;
+      allotted = refl;
+      measurement = measurement;
+      count = count;
+      users = users;
+      consumption = consumption;
+      losses = losses;
+      balance = ap (padded CELLS (pos 0)) cells-day;
+      revision = revision;
+    })
       where
         back : laid (read d) ≡ d
         back = laid-read d z t

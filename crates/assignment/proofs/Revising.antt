@@ -12,6 +12,8 @@ use Rattle.numbers.specs.Amounts.{Within, is-negative}
 use Rattle.numbers.proofs.Lists.{All, all-zip, map-zip}
 use Rattle.numbers.proofs.Amounts.{widen}
 use Rattle.proration.specs.Proration.{prorateZ}
+use Rattle.point_day.specs.Fields.{same-fields}
+use Rattle.point_day.specs.Fields.{set-revision}
 use Rattle.point_day.specs.Limits.{USERS, CELLS, LIMIT, AMOUNT}
 use Rattle.point_day.specs.Day.{User, Day, numbers, whole, no-more, too-large, provisional}
 use Rattle.point_day.specs.Calls.{refused, within-tolerance, revision-assigned, Move, refuse, verdict, with-users, revised, negative, assigned, keep, assign, revise-by, revise}
@@ -26,7 +28,7 @@ use Rattle.point_day.proofs.Called.{called-refused, called-accepted, test-holds
 use Rattle.point_day.proofs.Wholes.{assigned-long}
 use Rattle.point_day.proofs.Weights.{assigned-count}
 use Rattle.columns.proofs.Padding.{padded-every, zip-padded, zip-within}
-use Rattle.outstanding.specs.Revisions.{wholes, outstanding, shares, with-revision}
+use Rattle.outstanding.specs.Revisions.{wholes, outstanding, shares}
 use Rattle.outstanding.proofs.Columns.{summable, revisions-small, shares-small, shares-long}
 
 -- ---- a number of each user after its revision
@@ -67,19 +69,19 @@ module _ (d : PointDay) (z : Sized d) (ok : taken d ≡ true) where
         ∙ sym (zip-padded USERS (map (λ (u : User). u .revision) us) zs (length-map us (λ (u : User). u .revision) ∙ assigned-long R us))
         ∙ ap (λ (e : PointDay). zip _+ℤ_ (e .revision) (padded USERS (pos 0) zs)) (laid-read d z t)
 
-    laid-assigned : laid (with-users (assigned R us) (read d)) ≡ with-revision (zip _+ℤ_ (d .revision) (shares R d)) d
+    laid-assigned : laid (with-users (assigned R us) (read d)) ≡ set-revision (zip _+ℤ_ (d .revision) (shares R d)) d
     unfolding laid
-    laid-assigned = λ i. record {
-      stage = stage i;
-      allotted = allotted i;
-      measurement = measurement i;
-      count = (assigned-count R us ∙ read-count d z t) i;
-      users = (ap (padded USERS 0) (same (λ (u : User). u .number) (λ u z. refl)) ∙ ap (λ (e : PointDay). e .users) (laid-read d z t)) i;
-      consumption = (ap (λ l. padded CELLS (pos 0) (flat l)) (same (λ u. map pos (u .consumption)) (λ u z. refl)) ∙ ap (λ (e : PointDay). e .consumption) (laid-read d z t)) i;
-      losses = (ap (λ l. padded CELLS (pos 0) (flat l)) (same (λ u. map pos (u .losses)) (λ u z. refl)) ∙ ap (λ (e : PointDay). e .losses) (laid-read d z t)) i;
-      balance = (ap (λ l. padded CELLS (pos 0) (flat l)) (same (λ (u : User). u .balance) (λ u z. refl)) ∙ ap (λ (e : PointDay). e .balance) (laid-read d z t)) i;
-      revision = revisions i;
-    }
+    laid-assigned = same-fields (record {
+      stage = stage;
+      allotted = allotted;
+      measurement = measurement;
+      count = assigned-count R us ∙ read-count d z t;
+      users = ap (padded USERS 0) (same (λ (u : User). u .number) (λ u z. refl)) ∙ ap (λ (e : PointDay). e .users) (laid-read d z t);
+      consumption = ap (λ l. padded CELLS (pos 0) (flat l)) (same (λ u. map pos (u .consumption)) (λ u z. refl)) ∙ ap (λ (e : PointDay). e .consumption) (laid-read d z t);
+      losses = ap (λ l. padded CELLS (pos 0) (flat l)) (same (λ u. map pos (u .losses)) (λ u z. refl)) ∙ ap (λ (e : PointDay). e .losses) (laid-read d z t);
+      balance = ap (λ l. padded CELLS (pos 0) (flat l)) (same (λ (u : User). u .balance) (λ u z. refl)) ∙ ap (λ (e : PointDay). e .balance) (laid-read d z t);
+      revision = revisions;
+    })
       where
         stage : read d .stage ≡ d .stage
         stage = unfold read in refl
@@ -97,13 +99,13 @@ module _ (d : PointDay) (z : Sized d) (ok : taken d ≡ true) where
         (λ u z f n. record { consumption = f .consumption; losses = f .losses; balance = f .balance })
         us zs (read-full d z t) (anything zs)
 
-    read-assigned : read (with-revision (zip _+ℤ_ (d .revision) (shares R d)) d) .users ≡ assigned R us
+    read-assigned : read (set-revision (zip _+ℤ_ (d .revision) (shares R d)) d) .users ≡ assigned R us
     read-assigned =
         ap (λ (e : PointDay). read e .users) (sym laid-assigned)
         ∙ ap (λ (e : Day). e .users) (read-laid (with-users (assigned R us) (read d)) full)
 
     -- the whole amounts of the point-day after it can be summed
-    pub summable-after : Within LIMIT R → Laid (with-revision (zip _+ℤ_ (d .revision) (shares R d)) d)
+    pub summable-after : Within LIMIT R → Laid (set-revision (zip _+ℤ_ (d .revision) (shares R d)) d)
     summable-after h =
         let l = summable d z ok in
         record {
@@ -159,15 +161,15 @@ module _ (d : PointDay) (z : Sized d) (ok : taken d ≡ true) where
             ∙ moved (assign R (read d)) (by-assign beyond)
 
         module _ (n : negative (wholes d) ≡ false) where
-          pub revise-12 : too-large (read (with-revision (zip _+ℤ_ (d .revision) (shares R d)) d) .users) ≡ true → outcome (refused 12) d ≡ called (revise tolerance) d
+          pub revise-12 : too-large (read (set-revision (zip _+ℤ_ (d .revision) (shares R d)) d) .users) ≡ true → outcome (refused 12) d ≡ called (revise tolerance) d
           unfolding read
           revise-12 l =
               called-refused (λ (x : Day). assign R (read d)) d 12 ok
               (test-passed 1 _ _ (ap not open-day) (test-passed 11 _ _ (sym weights-negative ∙ n) (test-holds 12 _ _ (sym (ap too-large (read-assigned R)) ∙ l))))
               ∙ moved (assign R (read d)) (by-assign beyond)
 
-          pub revise-done : too-large (read (with-revision (zip _+ℤ_ (d .revision) (shares R d)) d) .users) ≡ false
-              → outcome (revision-assigned R) (with-revision (zip _+ℤ_ (d .revision) (shares R d)) d) ≡ called (revise tolerance) d
+          pub revise-done : too-large (read (set-revision (zip _+ℤ_ (d .revision) (shares R d)) d) .users) ≡ false
+              → outcome (revision-assigned R) (set-revision (zip _+ℤ_ (d .revision) (shares R d)) d) ≡ called (revise tolerance) d
           unfolding read
           revise-done l =
               ap (outcome (revision-assigned R)) (sym (laid-assigned R))

@@ -14,9 +14,9 @@ use Rattle.numbers.proofs.Lists.{All, never, true≢false, both-snd, either-fst
 use Rattle.proration.specs.Proration.{prorateZ}
 use Rattle.point_day.specs.Limits.{USERS, AMOUNT, ROWS, TOLERANCE}
 use Rattle.point_day.specs.Day as day
-use Rattle.point_day.specs.Day.{Day, empty-user, numbers, is-measured, some, no-more, is-number, too-large, provisional}
+use Rattle.point_day.specs.Day.{Day, with-balance, empty-user, numbers, is-measured, some, no-more, is-number, too-large, provisional}
 use Rattle.point_day.specs.Calls as calls
-use Rattle.point_day.specs.Calls.{Verdict, refuse, accept, verdict, with-users, allotted-with, with-balance, by-basis, none-estimated}
+use Rattle.point_day.specs.Calls.{Verdict, refuse, accept, verdict, with-users, allotted-with, by-basis, none-estimated}
 use Rattle.point_day.specs.Calls.{or-kind-1, user-shares, with-share, balanced, Pair, users-of, amounts-of, row-right, nearest-filled}
 use Rattle.point_day.specs.Calls.{looked-at, negative, opened, at-most, keep, assign, revise-by}
 use Rattle.point_day.specs.declared.Stage.{Stage}
@@ -82,7 +82,7 @@ module _ (b : Book) (h : Kept b) where
   balanced-is =
       ap (zip (with-share all) (map (user-of b) (b .users))) shares-are
       ∙ zip-parts (to-balance b) (user-weight b) (b .users) (with-share all) (user-of b) (users-apart b h)
-      ∙ map-eq _ _ (λ n. ap (with-balance (user-of b n)) (kinds-are n (user-share b n))) (b .users)
+      ∙ map-eq _ _ (λ n. ap (λ zs. with-balance zs (user-of b n)) (kinds-are n (user-share b n))) (b .users)
 
   allot-day : day-of (allotted b) ≡ calls.allot (day-of b) .after
   unfolding calls.allot day-of allotted

@@ -83,6 +83,31 @@ page s a m us ls bal rev net = record {
   settled = net;
 }
 
+-- a book with another value in one field
+abbrev pub with-stage : Stage → Book → Book
+with-stage x b = page x (b .allotted) (b .measurement) (b .users) (b .lines) (b .balance) (b .revision) (b .settled)
+
+abbrev pub with-allotted : Bool → Book → Book
+with-allotted x b = page (b .stage) x (b .measurement) (b .users) (b .lines) (b .balance) (b .revision) (b .settled)
+
+abbrev pub with-measurement : Measurement → Book → Book
+with-measurement x b = page (b .stage) (b .allotted) x (b .users) (b .lines) (b .balance) (b .revision) (b .settled)
+
+abbrev pub with-users : List ℕ → Book → Book
+with-users x b = page (b .stage) (b .allotted) (b .measurement) x (b .lines) (b .balance) (b .revision) (b .settled)
+
+abbrev pub with-lines : List Line → Book → Book
+with-lines x b = page (b .stage) (b .allotted) (b .measurement) (b .users) x (b .balance) (b .revision) (b .settled)
+
+abbrev pub with-balance : (ℕ → ℕ → ℤ) → Book → Book
+with-balance x b = page (b .stage) (b .allotted) (b .measurement) (b .users) (b .lines) x (b .revision) (b .settled)
+
+abbrev pub with-revision : (ℕ → ℤ) → Book → Book
+with-revision x b = page (b .stage) (b .allotted) (b .measurement) (b .users) (b .lines) (b .balance) x (b .settled)
+
+abbrev pub with-settled : ℤ → Book → Book
+with-settled x b = page (b .stage) (b .allotted) (b .measurement) (b .users) (b .lines) (b .balance) (b .revision) x
+
 -- "Fresh is provisional, entering, empty, unmeasured"
 unfoldable pub fresh-book : Book
 fresh-book = page Provisional false Unmeasured [] [] (λ n kind. pos 0) (λ n. pos 0) (pos 0)
@@ -155,18 +180,17 @@ part A weight parties p = beside parties (prorateZ A (map weight parties) partie
 -- ---- Join: "adds a user"
 
 unfoldable pub joined : ℕ → Book → Book
-joined n b = page (b .stage) (b .allotted) (b .measurement) (b .users ++ (n ∷ [])) (b .lines) (b .balance) (b .revision) (b .settled)
+joined n b = with-users (b .users ++ (n ∷ [])) b
 
 -- ---- Line: "Adds the consumption, and as losses .."
 
 unfoldable pub with-line : Line → Book → Book
-with-line l b = page (b .stage) (b .allotted) (b .measurement) (b .users) (l ∷ b .lines) (b .balance) (b .revision) (b .settled)
+with-line l b = with-lines (l ∷ b .lines) b
 
 -- ---- Measure: "the latest counts"
 
 unfoldable pub measured : ℕ → ℕ → Book → Book
-measured emission downstream b =
-    page (b .stage) (b .allotted) (Measured emission downstream) (b .users) (b .lines) (b .balance) (b .revision) (b .settled)
+measured emission downstream b = with-measurement (Measured emission downstream) b
 
 -- ---- Allot
 
@@ -194,7 +218,7 @@ kind-share b n kind = part (user-share b n) (kind-weight b n) kinds kind
 
 -- "The stage is then allotted"; "Allot, stand-in and a revise outside tolerance .. also make its net the settled net"
 unfoldable pub allotted : Book → Book
-allotted b = page (b .stage) true (b .measurement) (b .users) (b .lines) (kind-share b) (b .revision) (net b)
+allotted b = with-allotted true (with-balance (kind-share b) (with-settled (net b) b))
 
 -- ---- Stand-in
 
@@ -228,7 +252,7 @@ unfoldable pub stood-in : List (List Pair) → Book → Book
 stood-in rows b =
     let row = used-row rows in
     let newcomers = users-in row in
-    page (b .stage) true (b .measurement) (b .users ++ newcomers) (b .lines) (b .balance) (part (net b) (row-weight row) newcomers) (net b)
+    with-allotted true (with-users (b .users ++ newcomers) (with-revision (part (net b) (row-weight row) newcomers) (with-settled (net b) b)))
 
 -- ---- Revise
 
@@ -246,8 +270,7 @@ gains b n = part (R b) (λ m. natAbs (whole b m)) (b .users) n
 
 -- ".. added to the revisions", and its net settled
 unfoldable pub assigned : Book → Book
-assigned b =
-    page (b .stage) (b .allotted) (b .measurement) (b .users) (b .lines) (b .balance) (λ n. b .revision n +ℤ gains b n) (net b)
+assigned b = with-revision (λ n. b .revision n +ℤ gains b n) (with-settled (net b) b)
 
 -- within tolerance "nothing changes"
 abbrev pub revised : Book → Book
@@ -263,7 +286,8 @@ next-stage FinalDefinitive = FinalDefinitive
 
 unfoldable pub restarted : Book → Book
 restarted b =
-    page (next-stage (b .stage)) false (b .measurement) (b .users) [] (λ n kind. pos 0) (λ n. pos 0) (b .settled)
+    with-stage (next-stage (b .stage))
+    (with-allotted false (with-lines [] (with-balance (λ n kind. pos 0) (with-revision (λ n. pos 0) b))))
 
 -- ---- what a call does
 

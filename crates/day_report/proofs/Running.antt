@@ -18,7 +18,7 @@ use Rattle.point_day.specs.Struct.{Sized, padded, laid, taken}
 use Rattle.point_day.specs.declared.Measurement.{Measurement}
 use Rattle.point_day.specs.declared.Measurement.the-variants.{Unmeasured, Measured}
 use Rattle.calendar.specs.Days.{LAST-DAY}
-use Rattle.measurement.specs.Remeasured.{remeasured}
+use Rattle.point_day.specs.Fields.{set-measurement}
 use Rattle.measurement.proofs.Measures.{measure-2, measure-done}
 use Rattle.day_book.specs.Run.{Call, measure, allot}
 use Rattle.file_form.specs.Form.{gas-day, emission, downstream, sections, well-formed}
@@ -49,9 +49,9 @@ fresh-sized = record {
   revision = length-replicate USERS (pos 0);
 }
 
-fresh-remeasured : (m : Measurement) → unjoined m ≡ remeasured m (laid fresh)
+fresh-measured : (m : Measurement) → unjoined m ≡ set-measurement m (laid fresh)
 unfolding unjoined entering laid padded flat fresh
-fresh-remeasured m = refl
+fresh-measured m = refl
 
 module _ (e w g : ℕ) (rest : List Call) where
   refuse : emission-right e w ≡ false → in-order g (measure e w ∷ rest) (laid fresh) ≡ refused 2
@@ -60,7 +60,7 @@ module _ (e w g : ℕ) (rest : List Call) where
 
   measure-leads : emission-right e w ≡ true → in-order g (measure e w ∷ rest) (laid fresh) ≡ in-order g rest (unjoined (Measured e w))
   unfolding laid fresh
-  measure-leads r = step g (measure e w) rest (laid fresh) (measure-done e w (laid fresh) fresh-sized fresh-taken refl r (fresh-remeasured (Measured e w)))
+  measure-leads r = step g (measure e w) rest (laid fresh) (measure-done e w (laid fresh) fresh-sized fresh-taken refl r (fresh-measured (Measured e w)))
 
 -- ---- the whole file
 

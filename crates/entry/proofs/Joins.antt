@@ -10,6 +10,7 @@ use lib.ListN.{length, take, set, replicate, length-append, length-map}
 use borrow.Author.Tests.{le-leb, lt-leb}
 use Rattle.numbers.specs.Lists.{has, flat}
 use Rattle.numbers.proofs.Lists.{All, all-map, map-append, both-true}
+use Rattle.point_day.specs.Fields.{same-fields}
 use Rattle.point_day.specs.Limits.{USERS, CELLS, LAST-NUMBER}
 use Rattle.point_day.specs.Day.{User, Day, empty-user, numbers, is-number}
 use Rattle.point_day.specs.Calls.{refused, done, verdict, with-users, join}
@@ -35,17 +36,17 @@ module _ (n : ℕ) (D : Day) (full : All Full (D .users)) (l : length (D .users)
 
   laid-join : laid (with-users (D .users ++ (empty-user n ∷ [])) D) ≡ appended n (laid D)
   unfolding laid
-  laid-join = λ i. record {
-    stage = D .stage;
-    allotted = D .allotted;
-    measurement = D .measurement;
-    count = length-append (D .users) (empty-user n ∷ []) i;
-    users = names i;
-    consumption = more (pos 0) (λ u. map pos (u .consumption)) refl (all-map Full _ (λ u h. length-map (u .consumption) pos ∙ h .consumption) (D .users) full) i;
-    losses = more (pos 0) (λ u. map pos (u .losses)) refl (all-map Full _ (λ u h. length-map (u .losses) pos ∙ h .losses) (D .users) full) i;
-    balance = more (pos 0) (λ (u : User). u .balance) refl (all-map Full _ (λ u h. h .balance) (D .users) full) i;
-    revision = revisions i;
-  }
+  laid-join = same-fields (record {
+    stage = refl;
+    allotted = refl;
+    measurement = refl;
+    count = length-append (D .users) (empty-user n ∷ []);
+    users = names;
+    consumption = more (pos 0) (λ u. map pos (u .consumption)) refl (all-map Full _ (λ u h. length-map (u .consumption) pos ∙ h .consumption) (D .users) full);
+    losses = more (pos 0) (λ u. map pos (u .losses)) refl (all-map Full _ (λ u h. length-map (u .losses) pos ∙ h .losses) (D .users) full);
+    balance = more (pos 0) (λ (u : User). u .balance) refl (all-map Full _ (λ u h. h .balance) (D .users) full);
+    revision = revisions;
+  })
     where
       names : padded USERS 0 (numbers (D .users ++ (empty-user n ∷ []))) ≡ set (padded USERS 0 (numbers (D .users))) (length (D .users)) n
       names =

@@ -4,23 +4,14 @@ use mathlib.Core.Path.{_≡_}
 use Prim.Native.Nat.{ℕ, _+_, _<_}
 use lib.ListN.{set}
 use Rattle.point_day.specs.Limits.{USERS}
+use Rattle.point_day.specs.Fields.{set-count, set-users}
 use Rattle.point_day.specs.Calls.{refused, done, join}
 use Rattle.point_day.specs.Struct.{taken, outcome, called}
 use Rattle.point_day.specs.declared.PointDay.{PointDay}
 
 -- one user more, in the next slot
 abbrev pub appended : ℕ → PointDay → PointDay
-appended n d = record {
-  stage = d .stage;
-  allotted = d .allotted;
-  measurement = d .measurement;
-  count = d .count + 1;
-  users = set (d .users) (d .count) n;
-  consumption = d .consumption;
-  losses = d .losses;
-  balance = d .balance;
-  revision = d .revision;
-}
+appended n d = set-count (d .count + 1) (set-users (set (d .users) (d .count) n) d)
 
 -- a join that passes its tests: the call appends the user
 pub record Joins (n : ℕ) (d : PointDay) : Type 0 where

@@ -8,7 +8,7 @@ ghost use Rattle.point_day.specs.Answers.{answer-of};
 ghost use Rattle.point_day.specs.Struct.{outcome, called};
 ghost use Rattle.point_day.specs.declared.Stage.{Stage};
 ghost use Rattle.state.specs.Places.{Lengths};
-ghost use Rattle.taken.specs.Standing.{parts};
+ghost use Rattle.point_day.specs.Fields.{point-day};
 ghost use Rattle.entry.specs.Appended.{appended, Tested};
 use point_day::Answer;
 use point_day::Measurement;
@@ -28,7 +28,7 @@ fn append(day: PointDay, user: u16) -> PointDay
     next
 }
 
-// The tests of a join, on the parts of a point-day at any stage: 0, or the number of the refusal.
+// The tests of a join, on the point-day of a point-day at any stage: 0, or the number of the refusal.
 pub fn join_test<'a>(
     allotted: bool,
     measurement: Measurement,
@@ -41,7 +41,7 @@ pub fn join_test<'a>(
     user: u16,
 ) -> u8
     requires { ⌜ (length (now users) ≡ USERS) × Lengths (now consumption) (now losses) (now balance) (now revision) ⌝ }
-    ensures { λ r. ⌜ ((stage : Stage) → Tested user (parts stage allotted measurement n (now (users .entry)) (now (consumption .entry)) (now (losses .entry)) (now (balance .entry)) (now (revision .entry))) r) ⌝ }
+    ensures { λ r. ⌜ ((stage : Stage) → Tested user (point-day stage allotted measurement n (now (users .entry)) (now (consumption .entry)) (now (losses .entry)) (now (balance .entry)) (now (revision .entry))) r) ⌝ }
 {
     if !taken::parts_taken(
         allotted,

@@ -7,6 +7,7 @@ use Prim.Native.Nat.{ℕ, _+_}
 use lib.IntN.{ℤ, pos}
 use lib.ListN.{length, replicate}
 use Rattle.point_day.specs.Limits.{USERS, CELLS}
+use Rattle.point_day.specs.Fields.{point-day}
 use Rattle.point_day.specs.Day.{all-offtake, measurement-right}
 use Rattle.point_day.specs.Struct.{read, taken}
 use Rattle.point_day.specs.declared.Stage.the-variants.{Provisional}
@@ -20,17 +21,7 @@ use Rattle.file_lines.specs.declared.Entry.the-variants.{Refused, Offtake}
 
 -- the point-day of n users, their numbers, consumption and losses, with a measurement and nothing allotted yet
 unfoldable pub entering : ℕ → List ℕ → List ℤ → List ℤ → Measurement → PointDay
-entering n us cs ls m = record {
-  stage = Provisional;
-  allotted = false;
-  measurement = m;
-  count = n;
-  users = us;
-  consumption = cs;
-  losses = ls;
-  balance = replicate CELLS (pos 0);
-  revision = replicate USERS (pos 0);
-}
+entering n us cs ls m = point-day Provisional false m n us cs ls (replicate CELLS (pos 0)) (replicate USERS (pos 0))
 
 -- with any measurement in range it is taken, and its consumption and losses sum to `offtake`
 pub record Entered (n : ℕ) (us : List ℕ) (cs ls : List ℤ) (offtake : ℕ) : Type 0 where

@@ -8,6 +8,7 @@ use lib.IntN.{ℤ, pos}
 use lib.ListN.{length, replicate, length-map, length-replicate, replicate-append-replicate}
 use Rattle.numbers.specs.Lists.{either, flat}
 use Rattle.numbers.proofs.Lists.{map-map}
+use Rattle.point_day.specs.Fields.{same-fields}
 use Rattle.point_day.specs.Limits.{USERS, CELLS}
 use Rattle.point_day.specs.Day.{User, Day, empty-user, last-stage, next}
 use Rattle.point_day.specs.Calls.{refused, done, verdict, cleared, start-final}
@@ -43,17 +44,17 @@ module _ (D : Day) (l : length (D .users) ≤ USERS) where
 
   laid-start : laid (start-final D .after) ≡ restarted (laid D)
   unfolding laid start-final
-  laid-start = λ i. record {
-    stage = next (D .stage);
-    allotted = false;
-    measurement = D .measurement;
-    count = length-map (D .users) cleared i;
-    users = padded USERS 0 (map-map (λ (u : User). u .number) cleared (D .users) i);
-    consumption = none (λ u. map pos (u .consumption)) (λ n. refl) i;
-    losses = none (λ u. map pos (u .losses)) (λ n. refl) i;
-    balance = none (λ (u : User). u .balance) (λ n. refl) i;
-    revision = revisions i;
-  }
+  laid-start = same-fields (record {
+    stage = refl;
+    allotted = refl;
+    measurement = refl;
+    count = length-map (D .users) cleared;
+    users = ap (padded USERS 0) (map-map (λ (u : User). u .number) cleared (D .users));
+    consumption = none (λ u. map pos (u .consumption)) (λ n. refl);
+    losses = none (λ u. map pos (u .losses)) (λ n. refl);
+    balance = none (λ (u : User). u .balance) (λ n. refl);
+    revision = revisions;
+  })
     where
       revisions : padded USERS (pos 0) (map (λ (u : User). u .revision) (map cleared (D .users))) ≡ replicate USERS (pos 0)
       revisions = ap (padded USERS (pos 0)) (map-none (pos 0) (λ (u : User). u .revision) (λ n. refl) (D .users)) ∙ padded-none (pos 0) USERS (length (D .users)) l

@@ -14,6 +14,7 @@ use Rattle.numbers.specs.Lists.{has, distinct, flat}
 use Rattle.numbers.specs.Nearest.{nearest}
 use Rattle.numbers.proofs.Lists.{All, all-map, true≢false, both-fst, both-snd, either-fst, either-snd, has-at}
 use Rattle.point_day.specs.Limits.{USERS, CELLS, LIMIT, PARTS}
+use Rattle.point_day.specs.Fields.{same-fields}
 use Rattle.point_day.specs.Day.{User, Day, numbers, all-offtake}
 use Rattle.point_day.specs.Calls.{refused, losses-added, verdict, with-users, cell-step, user-line, for-user, line-right, line}
 use Rattle.point_day.specs.Struct.{Sized, read, padded, laid, taken, outcome, called}
@@ -67,16 +68,16 @@ module _ (n kind c k : ℕ) (D : Day) (full : All Full (D .users)) (apart : dist
   laid-line : laid (with-users (map (for-user n (user-line kind c k)) (D .users)) D)
       ≡ with-cells (more (place s kind) c (laid D .consumption)) (more (place s kind) (line-losses c k) (laid D .losses)) (laid D)
   unfolding laid cell-step
-  laid-line = ap (λ us. laid (with-users us D)) (map-for n (user-line kind c k) (D .users) s apart m here) ∙ (λ i. record {
-    stage = D .stage;
-    allotted = D .allotted;
-    measurement = D .measurement;
-    count = length-set (D .users) s w i;
-    users = padded USERS 0 (map-set-same (λ (u : User). u .number) (D .users) s w nobody refl i);
-    consumption = cells (λ (u : User). u .consumption) c (all-map Full _ (λ u h. h .consumption) (D .users) full) refl i;
-    losses = cells (λ (u : User). u .losses) (nearest (c * k) PARTS) (all-map Full _ (λ u h. h .losses) (D .users) full) refl i;
-    balance = padded CELLS (pos 0) (flat (map-set-same (λ (u : User). u .balance) (D .users) s w nobody refl i));
-    revision = padded USERS (pos 0) (map-set-same (λ (u : User). u .revision) (D .users) s w nobody refl i);
+  laid-line = ap (λ us. laid (with-users us D)) (map-for n (user-line kind c k) (D .users) s apart m here) ∙ same-fields (record {
+    stage = refl;
+    allotted = refl;
+    measurement = refl;
+    count = length-set (D .users) s w;
+    users = ap (padded USERS 0) (map-set-same (λ (u : User). u .number) (D .users) s w nobody refl);
+    consumption = cells (λ (u : User). u .consumption) c (all-map Full _ (λ u h. h .consumption) (D .users) full) refl;
+    losses = cells (λ (u : User). u .losses) (nearest (c * k) PARTS) (all-map Full _ (λ u h. h .losses) (D .users) full) refl;
+    balance = ap (λ bs. padded CELLS (pos 0) (flat bs)) (map-set-same (λ (u : User). u .balance) (D .users) s w nobody refl);
+    revision = ap (padded USERS (pos 0)) (map-set-same (λ (u : User). u .revision) (D .users) s w nobody refl);
   })
     where
       w : User

@@ -6,6 +6,7 @@ use Prim.Native.Nat.{ℕ, _≤_, _<_}
 use lib.IntN.{ℤ}
 use Rattle.numbers.specs.Sums.{pick}
 use Rattle.point_day.specs.Limits.{CELLS, LIMIT}
+use Rattle.point_day.specs.Fields.{set-consumption, set-losses}
 use Rattle.point_day.specs.Calls.{refused, losses-added, line}
 use Rattle.point_day.specs.Struct.{taken, Outcome, outcome, called}
 use Rattle.lines.specs.declared.LineTest.{LineTest}
@@ -15,17 +16,7 @@ use Rattle.line_cells.specs.Cell.{line-losses, past-limit, place, more}
 
 -- other consumption and losses
 abbrev pub with-cells : List ℤ → List ℤ → PointDay → PointDay
-with-cells cs ls d = record {
-  stage = d .stage;
-  allotted = d .allotted;
-  measurement = d .measurement;
-  count = d .count;
-  users = d .users;
-  consumption = cs;
-  losses = ls;
-  balance = d .balance;
-  revision = d .revision;
-}
+with-cells cs ls d = set-consumption cs (set-losses ls d)
 
 -- a line on a point-day whose consumption and losses sum to `sum`
 abbrev pub lined-at : ℕ → ℕ → ℕ → ℕ → ℕ → PointDay → Outcome

@@ -10,7 +10,7 @@ ghost use Rattle.point_day.specs.Answers.{answer-of};
 ghost use Rattle.point_day.specs.Struct.{outcome, called};
 ghost use Rattle.point_day.specs.declared.Stage.{Stage};
 ghost use Rattle.state.specs.Places.{Lengths};
-ghost use Rattle.taken.specs.Standing.{parts};
+ghost use Rattle.point_day.specs.Fields.{point-day};
 ghost use Rattle.line_cells.specs.Cell.{more};
 ghost use Rattle.lines.specs.Lined.{with-cells, Tested};
 use point_day::Answer;
@@ -26,7 +26,7 @@ pub enum LineTest {
     Passed(usize, u64),
 }
 
-// The tests of a line, on the parts of a point-day at any stage.
+// The tests of a line, on the point-day of a point-day at any stage.
 pub fn line_test<'a>(
     allotted: bool,
     measurement: Measurement,
@@ -42,7 +42,7 @@ pub fn line_test<'a>(
     coefficient: u64,
 ) -> LineTest
     requires { ⌜ (length (now users) ≡ USERS) × Lengths (now consumption) (now losses) (now balance) (now revision) ⌝ }
-    ensures { λ r. ⌜ ((stage : Stage) → Tested user kind amount coefficient (parts stage allotted measurement count (now (users .entry)) (now (consumption .entry)) (now (losses .entry)) (now (balance .entry)) (now (revision .entry))) r) ⌝ }
+    ensures { λ r. ⌜ ((stage : Stage) → Tested user kind amount coefficient (point-day stage allotted measurement count (now (users .entry)) (now (consumption .entry)) (now (losses .entry)) (now (balance .entry)) (now (revision .entry))) r) ⌝ }
 {
     if !taken::parts_taken(
         allotted,

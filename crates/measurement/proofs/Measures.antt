@@ -12,12 +12,12 @@ use Rattle.point_day.specs.declared.PointDay.{PointDay}
 use Rattle.point_day.proofs.Taken.{taken-facts}
 use Rattle.point_day.proofs.Back.{laid-read}
 use Rattle.point_day.proofs.Called.{called-refused, called-accepted, test-holds, test-passed, none-left}
-use Rattle.measurement.specs.Remeasured.{remeasured}
+use Rattle.point_day.specs.Fields.{set-measurement}
 
 module _ (e w : ℕ) (d : PointDay) (z : Sized d) (ok : taken d ≡ true) where
-  measure-after : remeasured (Measured e w) d ≡ laid (measure e w (read d) .after)
+  measure-after : set-measurement (Measured e w) d ≡ laid (measure e w (read d) .after)
   unfolding laid measure
-  measure-after = ap (remeasured (Measured e w)) (sym (laid-read d z (taken-facts d ok)))
+  measure-after = ap (set-measurement (Measured e w)) (sym (laid-read d z (taken-facts d ok)))
 
   measure-tests : verdict (measure e w (read d) .tests) ≡ verdict (record { number = 1; holds = both (d .allotted) (not (provisional (d .stage))) } ∷ record { number = 2; holds = not (emission-right e w) } ∷ [])
   unfolding measure read
@@ -30,7 +30,7 @@ module _ (e w : ℕ) (d : PointDay) (z : Sized d) (ok : taken d ≡ true) where
     pub measure-2 : emission-right e w ≡ false → outcome (refused 2) d ≡ called (measure e w) d
     measure-2 k = called-refused (measure e w) d 2 ok (measure-tests ∙ test-passed 1 _ _ h (test-holds 2 _ [] (ap not k)))
 
-    pub measure-done : {r : PointDay} → emission-right e w ≡ true → r ≡ remeasured (Measured e w) d → outcome done r ≡ called (measure e w) d
+    pub measure-done : {r : PointDay} → emission-right e w ≡ true → r ≡ set-measurement (Measured e w) d → outcome done r ≡ called (measure e w) d
     unfolding measure
     measure-done {r} k q =
         ap (λ (x : PointDay). outcome done x) (q ∙ measure-after)

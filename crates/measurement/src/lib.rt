@@ -7,7 +7,7 @@ ghost use Rattle.point_day.specs.Calls.{refused, measure};
 ghost use Rattle.point_day.specs.Answers.{answer-of};
 ghost use Rattle.point_day.specs.Struct.{outcome, called};
 ghost use Rattle.point_day.specs.declared.Measurement.the-variants.{Measured};
-ghost use Rattle.measurement.specs.Remeasured.{remeasured};
+ghost use Rattle.point_day.specs.Fields.{set-measurement};
 use point_day::Answer;
 use point_day::Measurement;
 use point_day::Outcome;
@@ -25,7 +25,7 @@ fn measured_for_good(allotted: bool, stage: Stage) -> bool
 }
 
 fn remeasure(day: PointDay, emission: u64, downstream: u64) -> PointDay
-    ensures { λ r. ⌜ r ≡ remeasured (Measured emission downstream) day ⌝ }
+    ensures { λ r. ⌜ r ≡ set-measurement (Measured emission downstream) day ⌝ }
 {
     PointDay {
         measurement: Measurement::Measured(emission, downstream),

@@ -13,6 +13,7 @@ use Rattle.numbers.specs.Amounts.{Within, is-negative}
 use Rattle.numbers.proofs.Lists.{All, both-true, all-map, all-zip, map-zip, map-map}
 use Rattle.numbers.proofs.Amounts.{widen}
 use Rattle.proration.specs.Proration.{prorateZ}
+use Rattle.point_day.specs.Fields.{same-fields}
 use Rattle.point_day.specs.Limits.{USERS, CELLS, KINDS, LIMIT}
 use Rattle.point_day.specs.Day.{User, Day, empty-user}
 use Rattle.point_day.specs.Calls.{allotted-with, revised, Pair, users-of, amounts-of, opened}
@@ -81,17 +82,17 @@ module _ (z : ℤ) (ps : List Pair) where
 
     pub laid-opened : laid (allotted-with (opened z ps) (read d)) ≡ opened-with (users-of ps) (padded USERS (pos 0) zs) d
     unfolding laid
-    laid-opened = λ i. record {
-      stage = stage i;
-      allotted = true;
-      measurement = measurement i;
-      count = (opened-count z ps ∙ sym (length-map ps (λ (p : Pair). p .user))) i;
-      users = ap (padded USERS 0) (same (λ (u : User). u .number) (λ u x. refl) ∙ map-map (λ (u : User). u .number) newcomer ps) i;
-      consumption = none (λ u. map pos (u .consumption)) (λ u x. refl) (λ n. refl) i;
-      losses = none (λ u. map pos (u .losses)) (λ u x. refl) (λ n. refl) i;
-      balance = none (λ (u : User). u .balance) (λ u x. refl) (λ n. refl) i;
-      revision = ap (padded USERS (pos 0)) revisions i;
-    }
+    laid-opened = same-fields (record {
+      stage = stage;
+      allotted = refl;
+      measurement = measurement;
+      count = opened-count z ps ∙ sym (length-map ps (λ (p : Pair). p .user));
+      users = ap (padded USERS 0) (same (λ (u : User). u .number) (λ u x. refl) ∙ map-map (λ (u : User). u .number) newcomer ps);
+      consumption = none (λ u. map pos (u .consumption)) (λ u x. refl) (λ n. refl);
+      losses = none (λ u. map pos (u .losses)) (λ u x. refl) (λ n. refl);
+      balance = none (λ (u : User). u .balance) (λ u x. refl) (λ n. refl);
+      revision = ap (padded USERS (pos 0)) revisions;
+    })
       where
         stage : read d .stage ≡ d .stage
         stage = unfold read in refl

@@ -8,6 +8,7 @@ use lib.IntN.{ℤ, pos}
 use lib.ListN.{length, replicate}
 use Rattle.numbers.specs.Lists.{both, every}
 use Rattle.point_day.specs.Limits.{USERS, CELLS, ROWS, TOLERANCE}
+use Rattle.point_day.specs.Fields.{set-allotted, set-count, set-users, set-consumption, set-losses, set-balance, set-revision}
 use Rattle.point_day.specs.Day.{is-measured, net-of, provisional}
 use Rattle.point_day.specs.Calls.{row-right}
 use Rattle.point_day.specs.Struct.{Sized, padded, taken, rows-of}
@@ -30,14 +31,9 @@ pub record Usable (d : PointDay) (rs : StandInRows) (n r : ℕ) : Type 0 where
 -- Opening a day with a list: its users join, with shares as their revisions, and the stage is allotted. Stage and measurement stay;
 -- all else is zero.
 abbrev pub opened-with : List ℕ → List ℤ → PointDay → PointDay
-opened-with users shares d = record {
-  stage = d .stage;
-  allotted = true;
-  measurement = d .measurement;
-  count = length users;
-  users = padded USERS 0 users;
-  consumption = replicate CELLS (pos 0);
-  losses = replicate CELLS (pos 0);
-  balance = replicate CELLS (pos 0);
-  revision = shares;
-}
+opened-with users shares d =
+    set-allotted true
+    (set-count (length users)
+    (set-users (padded USERS 0 users)
+    (set-consumption (replicate CELLS (pos 0))
+    (set-losses (replicate CELLS (pos 0)) (set-balance (replicate CELLS (pos 0)) (set-revision shares d))))))

@@ -18,17 +18,3 @@ outstanding d = net (read d) -ℤ all-whole (read d .users)
 -- "R is prorated by each user's whole amount"
 unfoldable pub shares : ℤ → PointDay → List ℤ
 shares R d = padded USERS (pos 0) (prorateZ R (map (λ u. natAbs (whole u)) (read d .users)) (numbers (read d .users)))
-
--- a point-day with other revisions
-abbrev pub with-revision : List ℤ → PointDay → PointDay
-with-revision zs d = record {
-  stage = d .stage;
-  allotted = d .allotted;
-  measurement = d .measurement;
-  count = d .count;
-  users = d .users;
-  consumption = d .consumption;
-  losses = d .losses;
-  balance = d .balance;
-  revision = zs;
-}

@@ -8,10 +8,11 @@ ghost use lib.ListN.{length, drop};
 ghost use Rattle.numbers.specs.Sums.{table, atZ};
 ghost use Rattle.numbers.specs.Lists.{zip};
 ghost use Rattle.numbers.specs.Amounts.{Within};
+ghost use Rattle.point_day.specs.Fields.{set-revision};
 ghost use Rattle.point_day.specs.Limits.{LIMIT};
 ghost use Rattle.point_day.specs.Struct.{Sized, taken};
 ghost use Rattle.columns.specs.Rooms.{ROOM};
-ghost use Rattle.outstanding.specs.Revisions.{wholes, outstanding, shares, with-revision};
+ghost use Rattle.outstanding.specs.Revisions.{wholes, outstanding, shares};
 use point_day::PointDay;
 use point_day::USERS;
 
@@ -80,7 +81,7 @@ pub fn added(column: [i64; USERS], more: [i64; USERS]) -> [i64; USERS]
 
 // Other revisions.
 pub fn with_revision(day: PointDay, column: [i64; USERS]) -> PointDay
-    ensures { λ r. ⌜ r ≡ with-revision column day ⌝ }
+    ensures { λ r. ⌜ r ≡ set-revision column day ⌝ }
 {
     PointDay {
         revision: column,

@@ -14,6 +14,7 @@ use Rattle.numbers.specs.Lists.{every}
 use Rattle.numbers.specs.Amounts.{is-negative}
 use Rattle.numbers.proofs.Lists.{All, both-true}
 use Rattle.wire.specs.Bytes.{signed-64}
+use Rattle.point_day.specs.Fields.{same-fields}
 use Rattle.point_day.specs.Limits.{USERS, CELLS}
 use Rattle.point_day.specs.Day.{is-measured}
 use Rattle.point_day.specs.Struct.{Sized, Outcome}
@@ -99,11 +100,6 @@ users-back : (us : List ℕ) → map natAbs (map (λ n. pos n) us) ≡ us
 users-back [] = refl
 users-back (u ∷ us) = ap (λ t. u ∷ t) (users-back us)
 
-same-day : (d : PointDay) (s : Stage) (a : Bool) (m : Measurement) (n : ℕ) (us : List ℕ) (cs ls bs rs : List ℤ) → s ≡ d .stage → a ≡ d .allotted → m ≡ d .measurement → n ≡ d .count
-    → us ≡ d .users → cs ≡ d .consumption → ls ≡ d .losses → bs ≡ d .balance → rs ≡ d .revision
-    → _≡_ {A = PointDay} (record { stage = s; allotted = a; measurement = m; count = n; users = us; consumption = cs; losses = ls; balance = bs; revision = rs }) d
-same-day d s a m n us cs ls bs rs e1 e2 e3 e4 e5 e6 e7 e8 e9 = rw (e1, e2, e3, e4, e5, e6, e7, e8, e9)
-
 -- ---- in range
 
 not-below : (n : ℕ) → n < 9223372036854775808 → not (is-negative (signed-64 n)) ≡ true
@@ -143,12 +139,17 @@ module _ (v : ℤ) (d : PointDay) (z : Sized d) (s : Small d) where
       let l = d .losses in
       let b = d .balance in
       let r = d .revision in
-      same-day d _ _ _ _ _ _ _ _ _ (stage-back (d .stage)) (flag-back (d .allotted)) (measurement-back (d .measurement) (s .emission) (s .downstream)) (size-back (d .count) (s .count))
-      (ap (map natAbs) (first u c l b r eu (z .consumption) (z .losses) (z .balance) (z .revision)) ∙ users-back (d .users))
-      (second u c l b r eu (z .consumption) (z .losses) (z .balance) (z .revision))
-      (third u c l b r eu (z .consumption) (z .losses) (z .balance) (z .revision))
-      (fourth u c l b r eu (z .consumption) (z .losses) (z .balance) (z .revision))
-      (fifth u c l b r eu (z .consumption) (z .losses) (z .balance) (z .revision))
+      same-fields (record {
+        stage = stage-back (d .stage);
+        allotted = flag-back (d .allotted);
+        measurement = measurement-back (d .measurement) (s .emission) (s .downstream);
+        count = size-back (d .count) (s .count);
+        users = ap (map natAbs) (first u c l b r eu (z .consumption) (z .losses) (z .balance) (z .revision)) ∙ users-back (d .users);
+        consumption = second u c l b r eu (z .consumption) (z .losses) (z .balance) (z .revision);
+        losses = third u c l b r eu (z .consumption) (z .losses) (z .balance) (z .revision);
+        balance = fourth u c l b r eu (z .consumption) (z .losses) (z .balance) (z .revision);
+        revision = fifth u c l b r eu (z .consumption) (z .losses) (z .balance) (z .revision);
+      })
 
   pub laid-out-again : is-laid-out (numbers-of v d) ≡ true
   unfolding is-laid-out head-laid-out numbers-of head

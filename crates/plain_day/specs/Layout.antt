@@ -10,6 +10,7 @@ use Rattle.numbers.specs.Sums.{pick, bit, atZ}
 use Rattle.numbers.specs.Lists.{both, either, every}
 use Rattle.numbers.specs.Amounts.{is-negative}
 use Rattle.wire.specs.Bytes.{signed-64}
+use Rattle.point_day.specs.Fields.{point-day}
 use Rattle.point_day.specs.Limits.{USERS, CELLS}
 use Rattle.point_day.specs.Day.{is-measured}
 use Rattle.point_day.specs.declared.PointDay.{PointDay}
@@ -78,17 +79,10 @@ abbrev pub measurement-of : ℕ → ℕ → ℕ → Measurement
 measurement-of measured emission downstream = pick (eqb measured 0) Unmeasured (Measured emission downstream)
 
 unfoldable pub day-in : List ℤ → PointDay
-day-in xs = record {
-  stage = stage-of (natAbs (atZ xs 1));
-  allotted = eqb (natAbs (atZ xs 2)) 1;
-  measurement = measurement-of (natAbs (atZ xs 3)) (natAbs (atZ xs 4)) (natAbs (atZ xs 5));
-  count = natAbs (atZ xs 6);
-  users = map natAbs (part USERS-AT USERS xs);
-  consumption = part CONSUMPTION-AT CELLS xs;
-  losses = part LOSSES-AT CELLS xs;
-  balance = part BALANCE-AT CELLS xs;
-  revision = part REVISION-AT USERS xs;
-}
+day-in xs =
+    point-day (stage-of (natAbs (atZ xs 1))) (eqb (natAbs (atZ xs 2)) 1)
+    (measurement-of (natAbs (atZ xs 3)) (natAbs (atZ xs 4)) (natAbs (atZ xs 5))) (natAbs (atZ xs 6)) (map natAbs (part USERS-AT USERS xs))
+    (part CONSUMPTION-AT CELLS xs) (part LOSSES-AT CELLS xs) (part BALANCE-AT CELLS xs) (part REVISION-AT USERS xs)
 
 -- ---- the numbers of a point-day
 

@@ -13,6 +13,7 @@ use Rattle.numbers.specs.Sums.{table}
 use Rattle.numbers.proofs.Sums.{length-table, table-take}
 use Rattle.numbers.specs.Amounts.{is-negative}
 use Rattle.numbers.specs.Lists.{every, flat}
+use Rattle.point_day.specs.Fields.{same-fields}
 use Rattle.point_day.specs.Limits.{USERS, CELLS}
 use Rattle.point_day.specs.Day.{User, is-zero, numbers}
 use Rattle.point_day.specs.Struct.{Sized, kinds-of, user-at, read, padded, laid, none-past, none-below}
@@ -135,17 +136,17 @@ module _ (d : PointDay) (z : Sized d) (t : Taken d) where
 
   pub laid-read : laid (read d) ≡ d
   unfolding laid
-  laid-read = λ i. record {
-    stage = stage i;
-    allotted = allotted i;
-    measurement = measurement i;
-    count = read-count i;
-    users = numbers-back i;
-    consumption = consumption i;
-    losses = losses i;
-    balance = balance i;
-    revision = revisions-back i;
-  }
+  laid-read = same-fields (record {
+    stage = stage;
+    allotted = allotted;
+    measurement = measurement;
+    count = read-count;
+    users = numbers-back;
+    consumption = consumption;
+    losses = losses;
+    balance = balance;
+    revision = revisions-back;
+  })
     where
       stage : read d .stage ≡ d .stage
       stage = unfold read in refl

@@ -14,9 +14,9 @@ pub use Rattle.numbers.specs.Refusals.{Test, _when_, Verdict, refuse, accept}
 unfoldable pub use Rattle.numbers.specs.Refusals.{verdict}
 use Rattle.proration.specs.Proration.{prorateZ}
 use Rattle.point_day.specs.Limits.{USERS, KINDS, LIMIT, AMOUNT, COEFFICIENT, PARTS, ROWS}
-use Rattle.point_day.specs.Day.{User, Day, empty-user, numbers, all-offtake, whole, all-whole, net, is-measured, some, no-more, is-number, emission-right, too-large, provisional, last-stage, next}
+use Rattle.point_day.specs.Day.{User, Day, with-stage, with-allotted, with-measurement, with-consumption, with-losses, with-balance, with-revision, empty-user, numbers, all-offtake, whole, all-whole, net, is-measured, some, no-more, is-number, emission-right, too-large, provisional, last-stage, next}
 use Rattle.point_day.specs.declared.Measurement.the-variants.{Measured}
-pub use Rattle.point_day.specs.Day.{Pair}
+pub use Rattle.point_day.specs.Day.{Pair, with-users}
 pub use Rattle.point_day.specs.Answers.{Answer, refused, done, losses-added, rows-looked-at, within-tolerance, revision-assigned}
 
 -- ---- a call
@@ -29,27 +29,12 @@ pub record Move : Type 0 where
 
 -- ---- days and users with other contents
 
-abbrev pub with-users : List User → Day → Day
-with-users us d = record { stage = d .stage; allotted = d .allotted; measurement = d .measurement; users = us }
-
 abbrev pub allotted-with : List User → Day → Day
-allotted-with us d = record { stage = d .stage; allotted = true; measurement = d .measurement; users = us }
-
-abbrev pub with-offtake : List ℕ → List ℕ → User → User
-with-offtake cs ls u = record { number = u .number; consumption = cs; losses = ls; balance = u .balance; revision = u .revision }
-
-abbrev pub with-balance : User → List ℤ → User
-with-balance u zs = record { number = u .number; consumption = u .consumption; losses = u .losses; balance = zs; revision = u .revision }
+allotted-with us d = with-allotted true (with-users us d)
 
 -- z more revision
 abbrev pub revised : User → ℤ → User
-revised u z = record {
-  number = u .number;
-  consumption = u .consumption;
-  losses = u .losses;
-  balance = u .balance;
-  revision = u .revision +ℤ z;
-}
+revised u z = with-revision (u .revision +ℤ z) u
 
 -- ---- Join (entering): adds a user
 
@@ -95,8 +80,8 @@ cell-in n kind (u ∷ us) = pick (eqb (u .number) n) (cell-of kind u) (cell-in n
 -- a user after a line
 abbrev pub user-line : ℕ → ℕ → ℕ → User → User
 user-line kind c k u =
-    with-offtake (set (u .consumption) (kind - 1) (cell-step c k (cell-of kind u) .after .consumption))
-    (set (u .losses) (kind - 1) (cell-step c k (cell-of kind u) .after .losses)) u
+    with-consumption (set (u .consumption) (kind - 1) (cell-step c k (cell-of kind u) .after .consumption))
+    (with-losses (set (u .losses) (kind - 1) (cell-step c k (cell-of kind u) .after .losses)) u)
 
 abbrev pub for-user : ℕ → (User → User) → User → User
 for-user n f u = pick (eqb (u .number) n) (f u) u
@@ -128,7 +113,7 @@ measure emission downstream d = record {
       ∷ (2 when not (emission-right emission downstream))
       ∷ [];
   answer = done;
-  after = record { stage = d .stage; allotted = d .allotted; measurement = Measured emission downstream; users = d .users };
+  after = with-measurement (Measured emission downstream) d;
 }
 
 -- ---- Allot (entering): balance = net − consumption − losses, over all users
@@ -168,7 +153,7 @@ user-shares d =
 
 -- "Then each user's share is prorated over that user's kinds with the same weights"
 abbrev pub with-share : Bool → User → ℤ → User
-with-share all u z = with-balance u (prorateZ z (or-kind-1 (by-basis all u)) kinds)
+with-share all u z = with-balance (prorateZ z (or-kind-1 (by-basis all u)) kinds) u
 
 unfoldable pub balanced : Day → List User
 balanced d = zip (with-share (none-estimated (d .users))) (d .users) (user-shares d)
@@ -280,5 +265,5 @@ unfoldable pub start-final : Day → Move
 start-final d = record {
   tests = (1 when either (not (d .allotted)) (last-stage (d .stage))) ∷ [];
   answer = done;
-  after = record { stage = next (d .stage); allotted = false; measurement = d .measurement; users = map cleared (d .users) };
+  after = with-stage (next (d .stage)) (with-allotted false (with-users (map cleared (d .users)) d));
 }

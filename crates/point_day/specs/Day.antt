@@ -37,15 +37,39 @@ pub record Pair : Type 0 where
   pub user : ℕ
   pub amount : ℤ
 
+-- ---- a day, or a user, with another value in one field
+
+abbrev pub with-stage : Stage → Day → Day
+with-stage x d = record { stage = x; allotted = d .allotted; measurement = d .measurement; users = d .users }
+
+abbrev pub with-allotted : Bool → Day → Day
+with-allotted x d = record { stage = d .stage; allotted = x; measurement = d .measurement; users = d .users }
+
+abbrev pub with-measurement : Measurement → Day → Day
+with-measurement x d = record { stage = d .stage; allotted = d .allotted; measurement = x; users = d .users }
+
+abbrev pub with-users : List User → Day → Day
+with-users x d = record { stage = d .stage; allotted = d .allotted; measurement = d .measurement; users = x }
+
+-- a user of its fields
+abbrev pub user : ℕ → List ℕ → List ℕ → List ℤ → ℤ → User
+user n cs ls bs r = record { number = n; consumption = cs; losses = ls; balance = bs; revision = r }
+
+abbrev pub with-consumption : List ℕ → User → User
+with-consumption x u = user (u .number) x (u .losses) (u .balance) (u .revision)
+
+abbrev pub with-losses : List ℕ → User → User
+with-losses x u = user (u .number) (u .consumption) x (u .balance) (u .revision)
+
+abbrev pub with-balance : List ℤ → User → User
+with-balance x u = user (u .number) (u .consumption) (u .losses) x (u .revision)
+
+abbrev pub with-revision : ℤ → User → User
+with-revision x u = user (u .number) (u .consumption) (u .losses) (u .balance) x
+
 -- a user with no amounts
 abbrev pub empty-user : ℕ → User
-empty-user n = record {
-  number = n;
-  consumption = replicate KINDS 0;
-  losses = replicate KINDS 0;
-  balance = replicate KINDS (pos 0);
-  revision = pos 0;
-}
+empty-user n = user n (replicate KINDS 0) (replicate KINDS 0) (replicate KINDS (pos 0)) (pos 0)
 
 abbrev pub numbers : List User → List ℕ
 numbers us = map (λ (u : User). u .number) us

@@ -1,4 +1,5 @@
 pub mod Limits
+pub mod Fields
 pub mod Day
 pub mod Answers
 pub mod Calls

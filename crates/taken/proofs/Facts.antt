@@ -27,7 +27,8 @@ use Rattle.state.specs.Places.{From, ROOM, Small, Laid, Lengths, whole-at}
 use Rattle.state.proofs.Cells.{zero-between, between-zero, between-sign, low-size, nonneg-between, between-size, size-between, within-from, low-from}
 use Rattle.state.proofs.Totals.{kinds-long, offtake-is, whole-is, wholes-are}
 use Rattle.amount_ranges.specs.Ranges.{Cells, Arrays, Wholes}
-use Rattle.taken.specs.Standing.{Stands, parts}
+use Rattle.point_day.specs.Fields.{point-day}
+use Rattle.taken.specs.Standing.{Stands}
 use Rattle.point_day.specs.declared.Stage.{Stage}
 
 abbrev pub wholes-of : PointDay → ℕ → ℤ
@@ -254,8 +255,8 @@ module _ (d : PointDay) (z : Sized d) (t : Taken d) where
 pub facts : (d : PointDay) → Sized d → taken d ≡ true → Facts d
 facts d z e = facts-of d z (taken-facts d e)
 
--- the lengths of the parts are those of the point-day
-pub parts-sized : (stage : Stage) {allotted : Bool} {m : Measurement} {n : ℕ} {us : List ℕ} {cs ls bs rs : List ℤ} → length us ≡ USERS → Lengths cs ls bs rs → Sized (parts stage allotted m n us cs ls bs rs)
+-- the lengths of the point-day are those of the point-day
+pub parts-sized : (stage : Stage) {allotted : Bool} {m : Measurement} {n : ℕ} {us : List ℕ} {cs ls bs rs : List ℤ} → length us ≡ USERS → Lengths cs ls bs rs → Sized (point-day stage allotted m n us cs ls bs rs)
 parts-sized stage u l = record { users = u; consumption = l .consumption; losses = l .losses; balance = l .balance; revision = l .revision }
 
 -- ---- what the code's tests say

@@ -6,25 +6,9 @@ use Prim.Native.Nat.{ℕ}
 use lib.IntN.{ℤ, pos}
 use Rattle.point_day.specs.Day.{is-measured}
 use Rattle.point_day.specs.declared.Measurement.{Measurement}
-use Rattle.point_day.specs.declared.PointDay.{PointDay}
-use Rattle.point_day.specs.declared.Stage.{Stage}
 use Rattle.state.specs.Places.{From}
 
 -- "allotted without user or measurement"; "balance or revision while entering"
 abbrev pub Stands : Bool → ℕ → Measurement → List ℤ → List ℤ → Type 0
 Stands true n m bs rs = (n ≡ 0 → ⊥) × (is-measured m ≡ true)
 Stands false n m bs rs = From 0 (pos 0) (pos 0) bs × From 0 (pos 0) (pos 0) rs
-
--- a point-day of its parts
-abbrev pub parts : Stage → Bool → Measurement → ℕ → List ℕ → List ℤ → List ℤ → List ℤ → List ℤ → PointDay
-parts stage allotted m n us cs ls bs rs = record {
-  stage = stage;
-  allotted = allotted;
-  measurement = m;
-  count = n;
-  users = us;
-  consumption = cs;
-  losses = ls;
-  balance = bs;
-  revision = rs;
-}

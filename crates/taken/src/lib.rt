@@ -9,7 +9,8 @@ ghost use Rattle.point_day.specs.Day.{measurement-right, too-large};
 ghost use Rattle.point_day.specs.Struct.{Sized, read, taken};
 ghost use Rattle.state.specs.Places.{From, Small, Laid, Lengths, whole-at};
 ghost use Rattle.amount_ranges.specs.Ranges.{Wholes};
-ghost use Rattle.taken.specs.Standing.{Stands, parts};
+ghost use Rattle.point_day.specs.Fields.{point-day};
+ghost use Rattle.taken.specs.Standing.{Stands};
 ghost use Rattle.point_day.specs.declared.Stage.{Stage};
 use amount_ranges::GREATEST;
 use amount_ranges::LEAST;
@@ -93,7 +94,7 @@ fn tests_pass<'a>(
     revision: &'a [i64],
 ) -> bool
     requires { ⌜ (length (now users) ≡ USERS) × Lengths (now consumption) (now losses) (now balance) (now revision) ⌝ }
-    ensures { λ r. ⌜ ((stage : Stage) → r ≡ taken (parts stage allotted measurement n (now (users .entry)) (now (consumption .entry)) (now (losses .entry)) (now (balance .entry)) (now (revision .entry)))) ⌝ }
+    ensures { λ r. ⌜ ((stage : Stage) → r ≡ taken (point-day stage allotted measurement n (now (users .entry)) (now (consumption .entry)) (now (losses .entry)) (now (balance .entry)) (now (revision .entry)))) ⌝ }
 {
     if USERS < n {
         return false;
@@ -119,7 +120,7 @@ fn tests_pass<'a>(
     stands(allotted, n, measurement, balance, revision)
 }
 
-// Whether a point-day in parts is taken, at any stage. The parts are fields of a point-day by value, or parts of a longer list; their
+// Whether a point-day in point-day is taken, at any stage. The point-day are fields of a point-day by value, or point-day of a longer list; their
 // lengths are told to the compiler.
 pub fn parts_taken<'a>(
     allotted: bool,
@@ -132,7 +133,7 @@ pub fn parts_taken<'a>(
     revision: &'a [i64],
 ) -> bool
     requires { ⌜ (length (now users) ≡ USERS) × Lengths (now consumption) (now losses) (now balance) (now revision) ⌝ }
-    ensures { λ r. ⌜ ((stage : Stage) → r ≡ taken (parts stage allotted measurement n (now (users .entry)) (now (consumption .entry)) (now (losses .entry)) (now (balance .entry)) (now (revision .entry)))) ⌝ }
+    ensures { λ r. ⌜ ((stage : Stage) → r ≡ taken (point-day stage allotted measurement n (now (users .entry)) (now (consumption .entry)) (now (losses .entry)) (now (balance .entry)) (now (revision .entry)))) ⌝ }
 {
     tests_pass(
         allotted,

@@ -9,8 +9,8 @@ use lib.ListN.{length}
 use Rattle.numbers.specs.Sums.{table, atZ, total}
 use Rattle.numbers.specs.Amounts.{Between}
 use Rattle.point_day.specs.Limits.{CELLS, LIMIT}
-use Rattle.point_day.specs.Day.{User, empty-user}
-use Rattle.point_day.specs.Calls.{with-offtake, by-basis}
+use Rattle.point_day.specs.Day.{User, empty-user, with-consumption, with-losses}
+use Rattle.point_day.specs.Calls.{by-basis}
 use Rattle.point_day.specs.Struct.{kinds-of}
 
 -- an array of consumption or losses: each cell lies in 0 to 1,000,000,000
@@ -26,7 +26,7 @@ pub record Metered (cs ls : List ℤ) : Type 0 where
 
 -- the user of slot s, as far as consumption and losses tell
 abbrev pub metered : List ℤ → List ℤ → ℕ → User
-metered cs ls s = with-offtake (map natAbs (kinds-of s cs)) (map natAbs (kinds-of s ls)) (empty-user 0)
+metered cs ls s = with-consumption (map natAbs (kinds-of s cs)) (with-losses (map natAbs (kinds-of s ls)) (empty-user 0))
 
 -- the weights of n users
 abbrev pub weights : Bool → List ℤ → List ℤ → ℕ → List ℕ

@@ -6,12 +6,13 @@ use mir.Facts.{toZ-ofZ}
 use Rattle.numbers.specs.Lists.{zip}
 use Rattle.numbers.proofs.Lists.{both-snd}
 use Rattle.numbers.proofs.Amounts.{widen}
+use Rattle.point_day.specs.Fields.{set-revision}
 use Rattle.point_day.specs.Limits.{TOLERANCE}
 use Rattle.point_day.specs.Day.{provisional, too-large}
 use Rattle.point_day.specs.Calls.{revision-assigned}
 use Rattle.point_day.specs.Struct.{read, outcome}
 use Rattle.point_day.specs.declared.PointDay.{PointDay}
-use Rattle.outstanding.specs.Revisions.{outstanding, shares, with-revision}
+use Rattle.outstanding.specs.Revisions.{outstanding, shares}
 use Rattle.outstanding.proofs.Columns.{amount-small, shares-small, revisions-small}
 use Rattle.assignment.proofs.Revising.{summable-after, revise-12, revise-done}
 use borrow.Author.Needs.{needs}
@@ -34,8 +35,8 @@ added-requires c κs =
     let small = shares-small d (p .sized) (p .taken) (outstanding d) (amount-small d (p .sized) (p .taken) refl) in
     (λ i. widen (revisions-small d (p .sized) (p .taken) i) (lit≤ tt), λ i. rw s (widen (small i) (lit≤ tt)))
 
-with-revision-requires : tie.Need-with-revision-requires
-with-revision-requires c κs = search needs
+set-revision-requires : tie.Need-set-revision-requires
+set-revision-requires c κs = search needs
 
 any-too-large-requires : tie.Need-any-too-large-requires
 any-too-large-requires c κs =
@@ -43,8 +44,8 @@ any-too-large-requires c κs =
     let p = c .before .before .before .before .pre .0 in
     let f = toZ-ofZ (c .before .before .before .before .fits .amount) in
     let s : c .before .before .before .share-column .result ≡ shares (outstanding d) d = (rw f at (c .before .before .before .share-column .ensures)) ∙ ap (λ R. shares R d) (p .amount) in
-    let e : c .with-revision .result ≡ with-revision (zip _+ℤ_ (d .revision) (shares (outstanding d) d)) d =
-    c .with-revision .ensures ∙ ap (λ l. with-revision l d) (c .before .added .ensures ∙ ap (zip _+ℤ_ (d .revision)) s) in
+    let e : c .with-revision .result ≡ set-revision (zip _+ℤ_ (d .revision) (shares (outstanding d) d)) d =
+    c .with-revision .ensures ∙ ap (λ l. set-revision l d) (c .before .added .ensures ∙ ap (zip _+ℤ_ (d .revision)) s) in
     rw e (summable-after d (p .sized) (p .taken) (outstanding d) (amount-small d (p .sized) (p .taken) refl))
 
 refuse-requires : tie.Need-refuse-requires
@@ -56,8 +57,8 @@ returns c =
     let p = c .before .before .before .before .before .before .before .pre .0 in
     let f = toZ-ofZ (c .before .before .before .before .before .before .before .fits .amount) in
     let s : c .before .before .before .before .before .before .share-column .result ≡ shares (outstanding d) d = (rw f at (c .before .before .before .before .before .before .share-column .ensures)) ∙ ap (λ R. shares R d) (p .amount) in
-    let e : c .before .before .before .with-revision .result ≡ with-revision (zip _+ℤ_ (d .revision) (shares (outstanding d) d)) d =
-    c .before .before .before .with-revision .ensures ∙ ap (λ l. with-revision l d) (c .before .before .before .before .added .ensures ∙ ap (zip _+ℤ_ (d .revision)) s) in
+    let e : c .before .before .before .with-revision .result ≡ set-revision (zip _+ℤ_ (d .revision) (shares (outstanding d) d)) d =
+    c .before .before .before .with-revision .ensures ∙ ap (λ l. set-revision l d) (c .before .before .before .before .added .ensures ∙ ap (zip _+ℤ_ (d .revision)) s) in
     let large = sym (ap (λ (x : PointDay). too-large (read x .users)) e) ∙ sym (c .before .before .any-too-large .ensures) in
     c .refuse .ensures ∙ revise-12 d (p .sized) (p .taken) TOLERANCE (p .stage) (p .beyond) (p .weights) (large ∙ c .before .if1 .taken)
 
@@ -67,8 +68,8 @@ returns-2 c =
     let p = c .before .before .before .before .before .before .pre .0 in
     let f = toZ-ofZ (c .before .before .before .before .before .before .fits .amount) in
     let s : c .before .before .before .before .before .share-column .result ≡ shares (outstanding d) d = (rw f at (c .before .before .before .before .before .share-column .ensures)) ∙ ap (λ R. shares R d) (p .amount) in
-    let e : c .before .before .with-revision .result ≡ with-revision (zip _+ℤ_ (d .revision) (shares (outstanding d) d)) d =
-    c .before .before .with-revision .ensures ∙ ap (λ l. with-revision l d) (c .before .before .before .added .ensures ∙ ap (zip _+ℤ_ (d .revision)) s) in
+    let e : c .before .before .with-revision .result ≡ set-revision (zip _+ℤ_ (d .revision) (shares (outstanding d) d)) d =
+    c .before .before .with-revision .ensures ∙ ap (λ l. set-revision l d) (c .before .before .before .added .ensures ∙ ap (zip _+ℤ_ (d .revision)) s) in
     let large = sym (ap (λ (x : PointDay). too-large (read x .users)) e) ∙ sym (c .before .any-too-large .ensures) in
     ap₂ (λ (R : ℤ) (x : PointDay). outcome (revision-assigned R) x) (f ∙ p .amount) e
     ∙ revise-done d (p .sized) (p .taken) TOLERANCE (p .stage) (p .beyond) (p .weights) (large ∙ c .if1 .left)
@@ -79,7 +80,7 @@ assign-spec =
     (tie.spec
     share-column-requires
     added-requires
-    with-revision-requires
+    set-revision-requires
     any-too-large-requires
     refuse-requires
     returns

@@ -6,7 +6,7 @@ use borrow.Author.Tests.{not-true, not-false, lt-ltb, le-ltb}
 use Rattle.point_day.specs.declared.Stage.the-variants.{Provisional}
 use Rattle.point_day.proofs.Called.{called-untaken}
 use Rattle.state.proofs.Numbers.{before-is}
-use Rattle.taken.specs.Standing.{parts}
+use Rattle.point_day.specs.Fields.{point-day}
 use Rattle.taken.proofs.Facts.{parts-sized, facts}
 use Rattle.entry.proofs.Joins.{join-1, join-2, join-4, join-5, join-done, fails, passes}
 use Rattle.entry.proofs.join_test.Statement.{statement}

@@ -12,7 +12,7 @@ use Rattle.point_day.specs.declared.Stage.the-variants.{Provisional}
 use Rattle.point_day.proofs.Called.{called-untaken}
 use Rattle.point_day.proofs.Taken.{taken-facts}
 use Rattle.state.proofs.Totals.{offtake-is}
-use Rattle.taken.specs.Standing.{parts}
+use Rattle.point_day.specs.Fields.{point-day}
 use Rattle.taken.proofs.Facts.{parts-sized, facts}
 use Rattle.line_cells.proofs.Ranges.{ranges}
 use Rattle.lines.proofs.Lining.{line-1, line-2, line-3, line-6, line-passed}
@@ -80,7 +80,7 @@ returns-5 : tie.Need-returns-5
 returns-5 c stage =
     let s = c .before .before .before .before .before .before .before .before .before .before .before in
     let a = s .args in
-    let d = parts stage (a .allotted) (a .measurement) (a .count) (a .users .now) (a .consumption .now) (a .losses .now) (a .balance .now) (a .revision .now) in
+    let d = point-day stage (a .allotted) (a .measurement) (a .count) (a .users .now) (a .consumption .now) (a .losses .now) (a .balance .now) (a .revision .now) in
     let t : taken d ≡ true = sym (c .before .before .before .before .before .before .before .before .before .parts-taken .ensures stage) ∙ not-false _ (c .before .before .before .before .before .before .before .before .if1 .left) in
     let p = taken-facts d t .past in
     let sum : c .before .offtake .result ≡ all-offtake (read d .users) = c .before .offtake .ensures ∙ sym (offtake-is d (p .consumption) (p .losses)) in
@@ -109,7 +109,7 @@ returns-6 : tie.Need-returns-6
 returns-6 c stage =
     let s = c .before .before .before .before .before .before .before .before .before .before .before in
     let a = s .args in
-    let d = parts stage (a .allotted) (a .measurement) (a .count) (a .users .now) (a .consumption .now) (a .losses .now) (a .balance .now) (a .revision .now) in
+    let d = point-day stage (a .allotted) (a .measurement) (a .count) (a .users .now) (a .consumption .now) (a .losses .now) (a .balance .now) (a .revision .now) in
     let t : taken d ≡ true = sym (c .before .before .before .before .before .before .before .before .before .parts-taken .ensures stage) ∙ not-false _ (c .before .before .before .before .before .before .before .before .if1 .left) in
     let p = taken-facts d t .past in
     let sum : c .before .offtake .result ≡ all-offtake (read d .users) = c .before .offtake .ensures ∙ sym (offtake-is d (p .consumption) (p .losses)) in

@@ -7,7 +7,7 @@ use borrow.Author.Tests.{not-true, not-false}
 use lib.ListN.{take}
 use Rattle.numbers.specs.Lists.{has}
 use Rattle.numbers.proofs.Lists.{true≢false, both-fst, both-snd, both-true}
-use Rattle.taken.specs.Standing.{parts}
+use Rattle.point_day.specs.Fields.{point-day}
 use Rattle.taken.proofs.Facts.{parts-sized, untaken, taken-by, small-parts}
 use Rattle.taken.proofs.tests_pass.Statement.{statement}
 use Rattle.taken.proofs.tests_pass.Tie as tie
@@ -16,7 +16,7 @@ returns : tie.Need-returns
 returns c stage =
     let s = c .before .before in
     let a = s .args in
-    untaken (parts stage (a .allotted) (a .measurement) (a .n) (a .users .now) (a .consumption .now) (a .losses .now) (a .balance .now) (a .revision .now)) (parts-sized stage (s .pre .0) (s .pre .1)) (λ F. omega (arith, c .if1 .taken, F .few))
+    untaken (point-day stage (a .allotted) (a .measurement) (a .n) (a .users .now) (a .consumption .now) (a .losses .now) (a .balance .now) (a .revision .now)) (parts-sized stage (s .pre .0) (s .pre .1)) (λ F. omega (arith, c .if1 .taken, F .few))
 
 none-past-requires : tie.Need-none-past-requires
 none-past-requires c κs = search needs
@@ -79,7 +79,7 @@ returns-8 c stage =
     let s = c .before .before .before .before .before .before .before .before .before .before .before .before .before .before .before in
     let a = s .args in
     let n = sym (c .before .before .before .before .before .before .before .before .before .before .numbers-right .ensures) ∙ not-false _ (c .before .before .before .before .before .before .before .before .before .if3 .left) in
-    taken-by (parts stage (a .allotted) (a .measurement) (a .n) (a .users .now) (a .consumption .now) (a .losses .now) (a .balance .now) (a .revision .now)) (parts-sized stage (s .pre .0) (s .pre .1)) (c .stands .result)
+    taken-by (point-day stage (a .allotted) (a .measurement) (a .n) (a .users .now) (a .consumption .now) (a .losses .now) (a .balance .now) (a .revision .now)) (parts-sized stage (s .pre .0) (s .pre .1)) (c .stands .result)
     (λ t. record {
       few = omega (arith, c .before .before .before .before .before .before .before .before .before .before .before .before .before .if1 .left);
       past = c .before .before .before .before .before .before .before .before .before .before .before .before .none-past .ensures .yes (not-false _ (c .before .before .before .before .before .before .before .before .before .before .before .if2 .left));
