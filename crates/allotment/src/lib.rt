@@ -1,3 +1,4 @@
+// Allot: the balance over users and their kinds.
 ghost use mathlib.Core.Path.{_≡_};
 ghost use mathlib.Core.Bool.{true};
 ghost use Rattle.point_day.specs.Calls.{refused, allot};

@@ -16,13 +16,6 @@ use point_day::CELLS;
 use point_day::KINDS;
 use point_day::USERS;
 
-// Zeros. (A call, so that no proof above sees its elements one by one.)
-fn no_cells() -> [i64; CELLS]
-    ensures { λ r. ⌜ r ≡ padded CELLS (pos 0) [] ⌝ }
-{
-    [0; CELLS]
-}
-
 // Each user's share over its kinds, user after user; later cells stay.
 fn spread_all<'a>(
     all: bool,
@@ -69,9 +62,9 @@ pub fn balance_cells<'a>(
     ensures { λ r. ⌜ r ≡ padded CELLS (pos 0) (all-balances net (now (consumption .entry)) (now (losses .entry)) (now (users .entry)) n) ⌝ }
 {
     let balance = day_balance(net, consumption, losses);
-    let mut shares = state::no_amounts();
+    let mut shares = point_day::no_amounts();
     let all = shares::share_out(balance, consumption, losses, users, n, &mut shares);
-    let mut cells = no_cells();
+    let mut cells = point_day::no_cells();
     spread_all(all, consumption, losses, &shares[..n], &mut cells);
     cells
 }

@@ -32,7 +32,7 @@ fn put_numbers(out: &mut [i64], users: &[u16])
 fn numbers_of_users(users: [u16; USERS]) -> [i64; USERS]
     ensures { λ r. ⌜ r ≡ map pos users ⌝ }
 {
-    let mut column = state::no_amounts();
+    let mut column = point_day::no_amounts();
     put_numbers(&mut column, &users);
     column
 }

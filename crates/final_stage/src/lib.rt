@@ -1,3 +1,4 @@
+// Start-final: the next stage, entering.
 ghost use mathlib.Core.Path.{_≡_};
 ghost use mathlib.Core.Bool.{not};
 ghost use Rattle.numbers.specs.Lists.{either};
@@ -7,11 +8,9 @@ ghost use Rattle.point_day.specs.Answers.{answer-of};
 ghost use Rattle.point_day.specs.Struct.{outcome, called};
 ghost use Rattle.final_stage.specs.Writes.{restarted};
 use point_day::Answer;
-use point_day::CELLS;
 use point_day::Outcome;
 use point_day::PointDay;
 use point_day::Stage;
-use point_day::USERS;
 
 // Whether the stage is the last.
 fn is_last(stage: Stage) -> bool
@@ -51,13 +50,15 @@ fn restart(day: PointDay) -> PointDay
 {
     let before = day.stage;
     let stage = next_stage(before);
+    let none = point_day::no_cells();
+    let unrevised = point_day::no_amounts();
     PointDay {
         stage: stage,
         allotted: false,
-        consumption: [0; CELLS],
-        losses: [0; CELLS],
-        balance: [0; CELLS],
-        revision: [0; USERS],
+        consumption: none,
+        losses: none,
+        balance: none,
+        revision: unrevised,
         ..day
     }
 }

@@ -21,24 +21,11 @@ use point_day::PointDay;
 use point_day::Stage;
 use point_day::USERS;
 
-// Zeros. (A call, so that no proof above sees its elements one by one.)
-fn no_cells() -> [i64; CELLS]
-    ensures { λ r. ⌜ r ≡ replicate CELLS (pos 0) ⌝ }
-{
-    [0; CELLS]
-}
-
-fn no_users() -> [u16; USERS]
-    ensures { λ r. ⌜ r ≡ replicate USERS 0 ⌝ }
-{
-    [0; USERS]
-}
-
 fn cells_in(xs: &[i64]) -> [i64; CELLS]
     requires { ⌜ length (now xs) ≡ CELLS ⌝ }
     ensures { λ r. ⌜ r ≡ now (xs .entry) ⌝ }
 {
-    let mut cells = no_cells();
+    let mut cells = point_day::no_cells();
     plain_day::put(&mut cells, 0, xs);
     cells
 }
@@ -47,7 +34,7 @@ fn column_in(xs: &[i64]) -> [i64; USERS]
     requires { ⌜ length (now xs) ≡ USERS ⌝ }
     ensures { λ r. ⌜ r ≡ now (xs .entry) ⌝ }
 {
-    let mut column = state::no_amounts();
+    let mut column = point_day::no_amounts();
     plain_day::put(&mut column, 0, xs);
     column
 }
@@ -74,7 +61,7 @@ pub fn users_in(xs: &[i64]) -> [u16; USERS]
     requires { ⌜ (length (now xs) ≡ USERS) × (every (up-to LAST-NUMBER) (now xs) ≡ true) ⌝ }
     ensures { λ r. ⌜ r ≡ map natAbs (now (xs .entry)) ⌝ }
 {
-    let mut users = no_users();
+    let mut users = point_day::no_users();
     put_users(&mut users, xs);
     users
 }

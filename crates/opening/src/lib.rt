@@ -18,7 +18,6 @@ ghost use Rattle.point_day.specs.Struct.{padded, rows-of, outcome, called};
 ghost use Rattle.stand_in_rows.specs.Rows.{rows};
 ghost use Rattle.opening.specs.Openings.{Usable, opened-with};
 use point_day::Answer;
-use point_day::CELLS;
 use point_day::Outcome;
 use point_day::PAIRS;
 use point_day::PointDay;
@@ -39,13 +38,6 @@ pub fn is_open(stage: Stage, allotted: bool, count: usize) -> bool
     count == 0
 }
 
-// No users. (A call, so that no proof above sees its elements one by one.)
-fn no_users() -> [u16; USERS]
-    ensures { λ r. ⌜ r ≡ replicate USERS 0 ⌝ }
-{
-    [0; USERS]
-}
-
 // User numbers written over the start of a column.
 fn put_users(users: &[u16], column: &mut [u16])
     requires { ⌜ length (now users) ≤ length (now column) ⌝ }
@@ -63,7 +55,7 @@ fn user_column(users: &[u16]) -> [u16; USERS]
     requires { ⌜ length (now users) ≤ USERS ⌝ }
     ensures { λ r. ⌜ r ≡ padded USERS 0 (now (users .entry)) ⌝ }
 {
-    let mut column = no_users();
+    let mut column = point_day::no_users();
     put_users(users, &mut column);
     column
 }
@@ -74,7 +66,7 @@ fn share_column(amount: u64, users: &[u16], amounts: &[i64]) -> [i64; USERS]
     requires { ⌜ ((i : ℕ) → Within AMOUNT (atZ (now amounts) i)) ⌝ }
     ensures { λ r. ⌜ r ≡ padded USERS (pos 0) (prorateZ (pos amount) (map natAbs (now (amounts .entry))) (now (users .entry))) ⌝ }
 {
-    let mut shares = state::no_amounts();
+    let mut shares = point_day::no_amounts();
     column_shares::share_out(amount as i64, users, amounts, &mut shares);
     shares
 }
@@ -86,13 +78,14 @@ pub fn opened(day: PointDay, users: &[u16], shares: [i64; USERS]) -> PointDay
 {
     let count = users.len();
     let column = user_column(users);
+    let none = point_day::no_cells();
     PointDay {
         allotted: true,
         count: count,
         users: column,
-        consumption: [0; CELLS],
-        losses: [0; CELLS],
-        balance: [0; CELLS],
+        consumption: none,
+        losses: none,
+        balance: none,
         revision: shares,
         ..day
     }

@@ -21,7 +21,7 @@ pub fn whole_column(day: PointDay) -> [i64; USERS]
     requires { ⌜ (taken day ≡ true) × Sized day ⌝ }
     ensures { λ r. ⌜ r ≡ wholes day ⌝ }
 {
-    let mut column = state::no_amounts();
+    let mut column = point_day::no_amounts();
     let n = day.count;
     state::whole_amounts(
         &day.consumption,
@@ -52,7 +52,7 @@ pub fn share_column(day: PointDay, amount: i64, column: [i64; USERS]) -> [i64; U
 {
     let n = day.count;
     let users = day.users;
-    let mut out = state::no_amounts();
+    let mut out = point_day::no_amounts();
     column_shares::share_out(amount, &users[..n], &column[..n], &mut out);
     out
 }

@@ -65,28 +65,28 @@ module _ {A : Type 0} (u c l b r : List A) (eu : length u ≡ USERS) (ec : lengt
   pub first : take USERS five ≡ u
   first = ap (take USERS) regroup ∙ take-at u (c ++ (l ++ (b ++ r))) USERS eu
 
-  pub second : take CELLS (drop 64 five) ≡ c
-  second = ap (λ x. take CELLS (drop 64 x)) regroup ∙ ap (take CELLS) (drop-at u (c ++ (l ++ (b ++ r))) 64 eu) ∙ take-at c (l ++ (b ++ r)) CELLS ec
+  pub second : take CELLS (drop USERS five) ≡ c
+  second = ap (λ x. take CELLS (drop USERS x)) regroup ∙ ap (take CELLS) (drop-at u (c ++ (l ++ (b ++ r))) USERS eu) ∙ take-at c (l ++ (b ++ r)) CELLS ec
 
-  pub third : take CELLS (drop 384 five) ≡ l
+  pub third : take CELLS (drop (USERS + CELLS) five) ≡ l
   third =
-      ap (λ x. take CELLS (drop 384 x)) regroup
-      ∙ ap (take CELLS) (skip u (c ++ (l ++ (b ++ r))) 64 320 eu ∙ drop-at c (l ++ (b ++ r)) 320 ec)
+      ap (λ x. take CELLS (drop (USERS + CELLS) x)) regroup
+      ∙ ap (take CELLS) (skip u (c ++ (l ++ (b ++ r))) USERS CELLS eu ∙ drop-at c (l ++ (b ++ r)) CELLS ec)
       ∙ take-at l (b ++ r) CELLS el
 
-  pub fourth : take CELLS (drop 704 five) ≡ b
+  pub fourth : take CELLS (drop (USERS + (CELLS + CELLS)) five) ≡ b
   fourth =
-      ap (λ x. take CELLS (drop 704 x)) regroup
-      ∙ ap (take CELLS) (skip u (c ++ (l ++ (b ++ r))) 64 640 eu ∙ skip c (l ++ (b ++ r)) 320 320 ec ∙ drop-at l (b ++ r) 320 el)
+      ap (λ x. take CELLS (drop (USERS + (CELLS + CELLS)) x)) regroup
+      ∙ ap (take CELLS) (skip u (c ++ (l ++ (b ++ r))) USERS (CELLS + CELLS) eu ∙ skip c (l ++ (b ++ r)) CELLS CELLS ec ∙ drop-at l (b ++ r) CELLS el)
       ∙ take-at b r CELLS eb
 
-  pub fifth : take USERS (drop 1024 five) ≡ r
+  pub fifth : take USERS (drop (USERS + (CELLS + (CELLS + CELLS))) five) ≡ r
   fifth =
-      ap (λ x. take USERS (drop 1024 x)) regroup
-      ∙ ap (take USERS) (skip u (c ++ (l ++ (b ++ r))) 64 960 eu ∙ skip c (l ++ (b ++ r)) 320 640 ec ∙ skip l (b ++ r) 320 320 el ∙ drop-at b r 320 eb)
+      ap (λ x. take USERS (drop (USERS + (CELLS + (CELLS + CELLS))) x)) regroup
+      ∙ ap (take USERS) (skip u (c ++ (l ++ (b ++ r))) USERS (CELLS + (CELLS + CELLS)) eu ∙ skip c (l ++ (b ++ r)) CELLS (CELLS + CELLS) ec ∙ skip l (b ++ r) CELLS CELLS el ∙ drop-at b r CELLS eb)
       ∙ take-all USERS r (omega arith)
 
-  pub five-long : length five ≡ 1088
+  pub five-long : length five ≡ USERS + (CELLS + (CELLS + (CELLS + USERS)))
   five-long = simp length-append (omega arith)
 
 -- ---- the point-day

@@ -19,24 +19,24 @@ use Rattle.point_day.specs.declared.Stage.the-variants.{Provisional, FinalProvi
 use Rattle.point_day.specs.declared.Measurement.{Measurement}
 use Rattle.point_day.specs.declared.Measurement.the-variants.{Unmeasured, Measured}
 
--- so many numbers, and where the arrays start
-abbrev pub LENGTH : ℕ
-LENGTH = 1095
-
+-- where the arrays start, and how many numbers there are
 abbrev pub USERS-AT : ℕ
 USERS-AT = 7
 
 abbrev pub CONSUMPTION-AT : ℕ
-CONSUMPTION-AT = 71
+CONSUMPTION-AT = USERS-AT + USERS
 
 abbrev pub LOSSES-AT : ℕ
-LOSSES-AT = 391
+LOSSES-AT = CONSUMPTION-AT + CELLS
 
 abbrev pub BALANCE-AT : ℕ
-BALANCE-AT = 711
+BALANCE-AT = LOSSES-AT + CELLS
 
 abbrev pub REVISION-AT : ℕ
-REVISION-AT = 1031
+REVISION-AT = BALANCE-AT + CELLS
+
+abbrev pub LENGTH : ℕ
+LENGTH = REVISION-AT + USERS
 
 -- the largest user number
 abbrev pub LAST-NUMBER : ℕ

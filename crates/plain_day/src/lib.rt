@@ -5,21 +5,23 @@ ghost use Prim.Native.Nat.{_+_, _≤_};
 ghost use lib.ListN.{length, take, drop};
 ghost use Rattle.numbers.specs.Lists.{every};
 ghost use Rattle.plain_day.specs.Layout.{up-to, measurement-laid-out, head-laid-out, is-laid-out};
+use point_day::CELLS;
+use point_day::USERS;
 
 // A point-day in plain numbers, which the caller lends. Number 0 is the value of the last accepted call (losses added, rows looked at, R,
 // count of rows; else 0); 1 the stage (0 provisional, 1 final provisional, 2 final definitive); 2 and 3 whether allotted and measured (0, 1);
 // 4 and 5 emission and downstream emission, passed over if not measured; 6 the count of users. The arrays follow from these places on.
-pub const LENGTH: usize = 1095;
-
 pub const USERS_AT: usize = 7;
 
-pub const CONSUMPTION_AT: usize = 71;
+pub const CONSUMPTION_AT: usize = USERS_AT + USERS;
 
-pub const LOSSES_AT: usize = 391;
+pub const LOSSES_AT: usize = CONSUMPTION_AT + CELLS;
 
-pub const BALANCE_AT: usize = 711;
+pub const BALANCE_AT: usize = LOSSES_AT + CELLS;
 
-pub const REVISION_AT: usize = 1031;
+pub const REVISION_AT: usize = BALANCE_AT + CELLS;
+
+pub const LENGTH: usize = REVISION_AT + USERS;
 
 // The largest user number.
 const LAST_NUMBER: u64 = 65535;

@@ -100,7 +100,7 @@ module _ (d : PointDay) (z : Sized d) (t : Taken d) where
         balance = long i (d .balance) l (z .balance);
       })
     where
-      long : {A : Type 0} (i : ℕ) (xs : List A) → i < d .count → length xs ≡ 320 → length (kinds-of i xs) ≡ 5
+      long : {A : Type 0} (i : ℕ) (xs : List A) → i < d .count → length xs ≡ CELLS → length (kinds-of i xs) ≡ 5
       long i xs l e = length-take-le 5 (drop (5 * i) xs) (omega (arith, length-drop (5 * i) xs, t .few))
 
   pub read-count : length (read d .users) ≡ d .count
@@ -123,13 +123,13 @@ module _ (d : PointDay) (z : Sized d) (t : Taken d) where
       ap (padded USERS (pos 0)) (map-table (λ (u : User). u .revision) (user-at d) (d .count) ∙ table-take (pos 0) (d .revision) (d .count) (omega (arith, t .few, z .revision)))
       ∙ padded-take (pos 0) 64 (d .count) (d .revision) (z .revision) (t .few) (rest-same is-zero (pos 0) zero-is 64 (d .count) (d .revision) (z .revision) (t .past .revision))
 
-  cells-back : (f : User → List ℤ) (xs : List ℤ) → length xs ≡ 320 → ((s : ℕ) → f (user-at d s) ≡ kinds-of s xs) → none-past (5 * d .count) xs ≡ true
+  cells-back : (f : User → List ℤ) (xs : List ℤ) → length xs ≡ CELLS → ((s : ℕ) → f (user-at d s) ≡ kinds-of s xs) → none-past (5 * d .count) xs ≡ true
       → padded CELLS (pos 0) (flat (map f (read d .users))) ≡ xs
   unfolding read
   cells-back f xs e h p =
-      ap (λ t. padded 320 (pos 0) (flat t)) (map-table f (user-at d) (d .count) ∙ table-same (λ s. f (user-at d s)) (λ s. kinds-of s xs) h (d .count))
-      ∙ ap (padded 320 (pos 0)) (flat-table xs (d .count))
-      ∙ padded-take (pos 0) 320 (5 * d .count) xs e (omega (arith, t .few)) (rest-same is-zero (pos 0) zero-is 320 (5 * d .count) xs e p)
+      ap (λ t. padded CELLS (pos 0) (flat t)) (map-table f (user-at d) (d .count) ∙ table-same (λ s. f (user-at d s)) (λ s. kinds-of s xs) h (d .count))
+      ∙ ap (padded CELLS (pos 0)) (flat-table xs (d .count))
+      ∙ padded-take (pos 0) CELLS (5 * d .count) xs e (omega (arith, t .few)) (rest-same is-zero (pos 0) zero-is CELLS (5 * d .count) xs e p)
 
   kinds-of-back : (s : ℕ) (xs : List ℤ) → none-below xs ≡ true → map pos (map natAbs (kinds-of s xs)) ≡ kinds-of s xs
   kinds-of-back s xs e = signs-back (kinds-of s xs) (every-take (λ z. not (is-negative z)) 5 (drop (5 * s) xs) (every-drop (λ z. not (is-negative z)) (5 * s) xs e))

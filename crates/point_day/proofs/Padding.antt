@@ -57,6 +57,6 @@ pub at-flat : {A : Type 0} (x y : A) (g : User → List A) (us : List User) (s k
     → getD (padded CELLS x (flat (map g us))) (5 * s + k) y ≡ getD (g (getD us s nobody)) k y
 unfolding padded
 at-flat x y g us s k h l m =
-    sym (getD-drop (5 * s) (flat (map g us) ++ replicate (320 - length (flat (map g us))) x) k y)
-    ∙ sym (getD-take 5 (drop (5 * s) (flat (map g us) ++ replicate (320 - length (flat (map g us))) x)) k y m)
-    ∙ ap (λ t. getD t k y) (kinds-of-flat g us (replicate (320 - length (flat (map g us))) x) s h l)
+    sym (getD-drop (5 * s) (flat (map g us) ++ replicate (CELLS - length (flat (map g us))) x) k y)
+    ∙ sym (getD-take 5 (drop (5 * s) (flat (map g us) ++ replicate (CELLS - length (flat (map g us))) x)) k y m)
+    ∙ ap (λ t. getD t k y) (kinds-of-flat g us (replicate (CELLS - length (flat (map g us))) x) s h l)

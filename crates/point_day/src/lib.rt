@@ -1,5 +1,8 @@
 // The point-day: its limits, its state, what a call on it answers; the fresh point-day.
 ghost use mathlib.Core.Path.{_≡_};
+ghost use lib.IntN.{pos};
+ghost use lib.ListN.{replicate};
+ghost use Rattle.point_day.specs.Limits.{USERS, CELLS};
 ghost use Rattle.point_day.specs.Day.{fresh};
 ghost use Rattle.point_day.specs.Answers.{refused, answer-of};
 ghost use Rattle.point_day.specs.Struct.{laid, outcome};
@@ -9,7 +12,7 @@ pub const USERS: usize = 64;
 
 pub const KINDS: usize = 5;
 
-pub const CELLS: usize = 320;
+pub const CELLS: usize = KINDS * USERS;
 
 pub const LIMIT: u64 = 1000000000;
 
@@ -24,7 +27,7 @@ pub const TOLERANCE: u64 = 100;
 // A stand-in takes so many rows; its pairs stand in one array, USERS places a row.
 pub const ROWS: usize = 15;
 
-pub const PAIRS: usize = 960;
+pub const PAIRS: usize = ROWS * USERS;
 
 pub enum Stage {
     Provisional,
@@ -38,7 +41,7 @@ pub enum Measurement {
     Measured(u64, u64),
 }
 
-// One point on one gas day. The users stand in the order in which they joined; kind k of slot s is cell 5 s + k - 1.
+// One point on one gas day. The users stand in the order in which they joined; kind k of slot s is cell KINDS s + k - 1.
 pub struct PointDay {
     pub stage: Stage,
     pub allotted: bool,
@@ -51,7 +54,7 @@ pub struct PointDay {
     pub revision: [i64; USERS],
 }
 
-// The rows of a stand-in: how many pairs each has; user and amount of pair j of row i stand at 64 i + j.
+// The rows of a stand-in: how many pairs each has; user and amount of pair j of row i stand at USERS i + j.
 pub struct StandInRows {
     pub counts: [usize; ROWS],
     pub users: [u16; PAIRS],
@@ -82,6 +85,26 @@ pub fn refuse(number: u8, day: PointDay) -> Outcome
         answer: Answer::Refused(number),
         day: day,
     }
+}
+
+// Arrays of zeros: user numbers, amounts of users and kinds, amounts of users. (Calls, so that no proof above sees their elements one by
+// one.)
+pub fn no_users() -> [u16; USERS]
+    ensures { λ r. ⌜ r ≡ replicate USERS 0 ⌝ }
+{
+    [0; USERS]
+}
+
+pub fn no_cells() -> [i64; CELLS]
+    ensures { λ r. ⌜ r ≡ replicate CELLS (pos 0) ⌝ }
+{
+    [0; CELLS]
+}
+
+pub fn no_amounts() -> [i64; USERS]
+    ensures { λ r. ⌜ r ≡ replicate USERS (pos 0) ⌝ }
+{
+    [0; USERS]
 }
 
 // A fresh point-day.

@@ -85,13 +85,6 @@ pub fn whole_amounts<'a>(
     }
 }
 
-// Zeros. (A call, so that no proof above sees its elements one by one.)
-pub fn no_amounts() -> [i64; USERS]
-    ensures { λ r. ⌜ r ≡ replicate USERS (pos 0) ⌝ }
-{
-    [0; USERS]
-}
-
 // Whether emission and downstream emission are in range.
 pub fn emission_right(emission: u64, downstream: u64) -> bool
     ensures { λ r. ⌜ r ≡ emission-right emission downstream ⌝ }

@@ -70,7 +70,7 @@ fn wholes_stand<'a>(
     requires { ⌜ (n ≤ USERS) × Small (now consumption) × Small (now losses) × Small (now balance) × Small (now revision) × Lengths (now consumption) (now losses) (now balance) (now revision) ⌝ }
     ensures { λ r. ⌜ Decides r (Wholes n (whole-at (now (consumption .entry)) (now (losses .entry)) (now (balance .entry)) (now (revision .entry)))) ⌝ }
 {
-    let mut wholes = state::no_amounts();
+    let mut wholes = point_day::no_amounts();
     state::whole_amounts(consumption, losses, balance, revision, n, &mut wholes);
     amount_ranges::wholes_right(&wholes[..n])
 }
@@ -171,7 +171,7 @@ pub fn any_too_large(day: PointDay) -> bool
 {
     let sizes = sized(day);
     let n = day.count;
-    let mut wholes = state::no_amounts();
+    let mut wholes = point_day::no_amounts();
     state::whole_amounts(
         &day.consumption,
         &day.losses,

@@ -1,7 +1,7 @@
 -- `c_calls::rows_laid_out` meets its contract. Assumes nothing.
 use lib.ListN.{length}
 use borrow.Author.Tests.{eq-eqb, ne-eqb}
-use Rattle.point_day.specs.Limits.{ROWS}
+use Rattle.point_day.specs.Limits.{USERS, ROWS}
 use Rattle.plain_calls.specs.Plain.{rows-laid-out}
 use Rattle.c_calls.proofs.rows_laid_out.Statement.{statement}
 use Rattle.c_calls.proofs.rows_laid_out.Tie as tie
@@ -14,13 +14,13 @@ returns-2 : tie.Need-returns-2
 unfolding rows-laid-out
 returns-2 c =
     let s = c .before .before in
-    rw (eq-eqb (length (s .args .counts .now)) ROWS (c .before .if1 .left), ne-eqb (length (s .args .users .now)) 960 (c .if2 .taken))
+    rw (eq-eqb (length (s .args .counts .now)) ROWS (c .before .if1 .left), ne-eqb (length (s .args .users .now)) (USERS * ROWS) (c .if2 .taken))
 
 returns-3 : tie.Need-returns-3
 unfolding rows-laid-out
 returns-3 c =
     let s = c .before .before in
-    rw (eq-eqb (length (s .args .counts .now)) ROWS (c .before .if1 .left), eq-eqb (length (s .args .users .now)) 960 (c .if2 .left))
+    rw (eq-eqb (length (s .args .counts .now)) ROWS (c .before .if1 .left), eq-eqb (length (s .args .users .now)) (USERS * ROWS) (c .if2 .left))
 
 pub rows-laid-out-spec : {M : Type 1} → statement M
 rows-laid-out-spec = tie.close (tie.spec returns returns-2 returns-3)

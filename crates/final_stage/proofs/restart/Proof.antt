@@ -6,9 +6,15 @@ use Rattle.final_stage.proofs.restart.Tie as tie
 next-stage-requires : tie.Need-next-stage-requires
 next-stage-requires c κs = search needs
 
+no-cells-requires : tie.Need-no-cells-requires
+no-cells-requires c κs = search needs
+
+no-amounts-requires : tie.Need-no-amounts-requires
+no-amounts-requires c κs = search needs
+
 returns : tie.Need-returns
-returns c = rw (c .before .next-stage .ensures)
+returns c = rw (c .before .before .before .next-stage .ensures, c .before .before .no-cells .ensures, c .before .no-amounts .ensures)
 
 pub restart-spec : {M : Type 1} → statement M
 restart-spec =
-    tie.close (tie.spec next-stage-requires returns)
+    tie.close (tie.spec next-stage-requires no-cells-requires no-amounts-requires returns)
