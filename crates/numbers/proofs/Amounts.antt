@@ -194,11 +194,12 @@ all-le-sum zs = go zs (total (map natAbs zs)) (omega arith)
 
 -- ---- at most m in size
 
-pub below-size : (z : ℤ) (m : ℕ) → 0 < m → ltZ z (negℤ (pos m)) ≡ true → m < natAbs z
-below-size z zero l e = absurd (omega arith)
-below-size z (suc k) l e = below z k e
+pub below-size : (z : ℤ) (m : ℕ) → ltZ z (negℤ (pos m)) ≡ true → m < natAbs z
+below-size (pos n) zero e = absurd (subst T (sym e ∙ lt-zero (pos n)) tt)
+below-size (negsuc n) zero e = omega arith
+below-size z (suc k) e = below z k e
 
-pub above-size : (z : ℤ) (m : ℕ) → 0 < m → ltZ z (negℤ (pos m)) ≡ false → leZ z (pos m) ≡ leb (natAbs z) m
-above-size z zero l e = absurd (omega arith)
-above-size (pos n) (suc k) l e = refl
-above-size (negsuc n) (suc k) l e = sym (le-leb (suc n) (suc k) (omega (arith, ltb-false k n e)))
+pub above-size : (z : ℤ) (m : ℕ) → ltZ z (negℤ (pos m)) ≡ false → leZ z (pos m) ≡ leb (natAbs z) m
+above-size (pos n) m e = refl
+above-size (negsuc n) zero e = absurd (subst T e tt)
+above-size (negsuc n) (suc k) e = sym (le-leb (suc n) (suc k) (omega (arith, ltb-false k n e)))

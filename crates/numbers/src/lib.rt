@@ -56,7 +56,7 @@ pub fn with_sign(negative: bool, size: u64) -> i64
 
 // Whether x is at most `limit` in size. Any x will do, also the least of 64 bits.
 pub fn size_at_most(x: i64, limit: u64) -> bool
-    requires { ⌜ (0 < limit) × (limit ≤ SAFE) ⌝ }
+    requires { ⌜ limit ≤ SAFE ⌝ }
     ensures { λ r. ⌜ r ≡ leb (natAbs x) limit ⌝ }
 {
     let high = limit as i64;

@@ -14,7 +14,7 @@ use Rattle.numbers.specs.Amounts.{Within}
 use Rattle.numbers.proofs.Sums.{length-table}
 use Rattle.numbers.proofs.Lists.{all-every, all-map, both-snd}
 use Rattle.proration.specs.Proration.{prorateZ}
-use Rattle.point_day.specs.Limits.{USERS, ROWS, LIMIT, AMOUNT, TOLERANCE}
+use Rattle.point_day.specs.Limits.{USERS, ROWS, LIMIT, AMOUNT}
 use Rattle.point_day.specs.Day.{is-measured, net, net-of, some, no-more, is-number, too-large, provisional}
 use Rattle.point_day.specs.Calls.{Answer, refused, rows-looked-at, Test, Verdict, verdict, _when_, Pair, users-of, amounts-of, row-right, nearest-filled, negative, at-most, opened, stand-in, allotted-with}
 use Rattle.point_day.specs.Struct.{Sized, read, padded, laid, taken, pair-at, row-at, rows-of, outcome, called}
@@ -37,7 +37,7 @@ some-is : {A : Type 0} (xs : List A) → some xs ≡ not (eqb (length xs) 0)
 some-is [] = refl
 some-is (x ∷ xs) = sym (ap not (ne-eqb (suc (length xs)) 0 (λ e. omega arith)))
 
-module _ (d : PointDay) (z : Sized d) (ok : taken d ≡ true) (rs : StandInRows) where
+module _ (d : PointDay) (z : Sized d) (ok : taken d ≡ true) (rs : StandInRows) (tolerance : ℕ) where
   -- ---- the tests, in the code's words
 
   stage-test : either (not (provisional (d .stage))) (either (d .allotted) (some (read d .users))) ≡ not (both (provisional (d .stage)) (both (not (d .allotted)) (eqb (d .count) 0)))
@@ -53,51 +53,51 @@ module _ (d : PointDay) (z : Sized d) (ok : taken d ≡ true) (rs : StandInRows)
   rows-test : not (both (eqb (length (rows-of rs)) ROWS) (every row-right (rows-of rs))) ≡ not (every row-right (rows-of rs))
   rows-test = ap (λ k. not (both (eqb k ROWS) (every row-right (rows-of rs)))) (rows-long rs)
 
-  pub stand-in-1 : both (provisional (d .stage)) (both (not (d .allotted)) (eqb (d .count) 0)) ≡ false → outcome (refused 1) d ≡ called (stand-in TOLERANCE (rows-of rs)) d
+  pub stand-in-1 : both (provisional (d .stage)) (both (not (d .allotted)) (eqb (d .count) 0)) ≡ false → outcome (refused 1) d ≡ called (stand-in tolerance (rows-of rs)) d
   unfolding stand-in read
-  stand-in-1 h = called-refused (stand-in TOLERANCE (rows-of rs)) d 1 ok (test-holds 1 _ _ (stage-test ∙ ap not h))
+  stand-in-1 h = called-refused (stand-in tolerance (rows-of rs)) d 1 ok (test-holds 1 _ _ (stage-test ∙ ap not h))
 
   module _ (open-day : both (provisional (d .stage)) (both (not (d .allotted)) (eqb (d .count) 0)) ≡ true) where
-    pub stand-in-2 : every row-right (rows-of rs) ≡ false → outcome (refused 2) d ≡ called (stand-in TOLERANCE (rows-of rs)) d
+    pub stand-in-2 : every row-right (rows-of rs) ≡ false → outcome (refused 2) d ≡ called (stand-in tolerance (rows-of rs)) d
     unfolding stand-in read
     stand-in-2 h =
-        called-refused (stand-in TOLERANCE (rows-of rs)) d 2 ok
+        called-refused (stand-in tolerance (rows-of rs)) d 2 ok
         (test-passed 1 _ _ (stage-test ∙ ap not open-day) (test-holds 2 _ _ (rows-test ∙ ap not h)))
 
     module _ (right : every row-right (rows-of rs) ≡ true) where
-      pub stand-in-7 : is-measured (d .measurement) ≡ false → outcome (refused 7) d ≡ called (stand-in TOLERANCE (rows-of rs)) d
+      pub stand-in-7 : is-measured (d .measurement) ≡ false → outcome (refused 7) d ≡ called (stand-in tolerance (rows-of rs)) d
       unfolding stand-in read
       stand-in-7 h =
-          called-refused (stand-in TOLERANCE (rows-of rs)) d 7 ok
+          called-refused (stand-in tolerance (rows-of rs)) d 7 ok
           (test-passed 1 _ _ (stage-test ∙ ap not open-day) (test-passed 2 _ _ (rows-test ∙ ap not right) (test-holds 7 _ _ (ap not h))))
 
       module _ (measured : is-measured (d .measurement) ≡ true) (n : ℕ) (e : pos n ≡ net-of (d .measurement)) where
-        pub stand-in-9 : leb n TOLERANCE ≡ true → outcome (refused 9) d ≡ called (stand-in TOLERANCE (rows-of rs)) d
+        pub stand-in-9 : leb n tolerance ≡ true → outcome (refused 9) d ≡ called (stand-in tolerance (rows-of rs)) d
         unfolding stand-in read
         stand-in-9 h =
-            called-refused (stand-in TOLERANCE (rows-of rs)) d 9 ok
+            called-refused (stand-in tolerance (rows-of rs)) d 9 ok
             (test-passed 1 _ _ (stage-test ∙ ap not open-day) (test-passed 2 _ _ (rows-test ∙ ap not right) (test-passed 7 _ _ (ap not measured)
-            (test-holds 9 _ _ (sym (ap (at-most TOLERANCE) e) ∙ h)))))
+            (test-holds 9 _ _ (sym (ap (at-most tolerance) e) ∙ h)))))
 
-        module _ (beyond : leb n TOLERANCE ≡ false) where
+        module _ (beyond : leb n tolerance ≡ false) where
           later : {v : Verdict} (ts : List Test) → verdict ts ≡ v
               → verdict ((1 when either (not (provisional (d .stage))) (either (d .allotted) (some (read d .users))))
               ∷ (2 when not (both (eqb (length (rows-of rs)) ROWS) (every row-right (rows-of rs))))
               ∷ (7 when not (is-measured (d .measurement)))
-              ∷ (9 when at-most TOLERANCE (net-of (d .measurement)))
+              ∷ (9 when at-most tolerance (net-of (d .measurement)))
               ∷ ts) ≡ v
           later ts q =
               test-passed 1 _ _ (stage-test ∙ ap not open-day) (test-passed 2 _ _ (rows-test ∙ ap not right) (test-passed 7 _ _ (ap not measured)
-              (test-passed 9 _ _ (sym (ap (at-most TOLERANCE) e) ∙ beyond) q)))
+              (test-passed 9 _ _ (sym (ap (at-most tolerance) e) ∙ beyond) q)))
 
-          pub stand-in-10 : nearest-filled (rows-of rs) ≡ [] → outcome (refused 10) d ≡ called (stand-in TOLERANCE (rows-of rs)) d
+          pub stand-in-10 : nearest-filled (rows-of rs) ≡ [] → outcome (refused 10) d ≡ called (stand-in tolerance (rows-of rs)) d
           unfolding stand-in read
-          stand-in-10 h = called-refused (stand-in TOLERANCE (rows-of rs)) d 10 ok (later _ (test-holds 10 _ _ (ap (λ ps. not (some ps)) h)))
+          stand-in-10 h = called-refused (stand-in tolerance (rows-of rs)) d 10 ok (later _ (test-holds 10 _ _ (ap (λ ps. not (some ps)) h)))
 
           module _ (r : ℕ) (near : Nearest (rs .counts) r) (found : r < ROWS) where
             last-tests : {v : Verdict}
                 → verdict ((11 when negative (amounts-of (row-at rs r))) ∷ (12 when too-large (opened (net-of (d .measurement)) (row-at rs r))) ∷ []) ≡ v
-                → verdict (stand-in TOLERANCE (rows-of rs) (read d) .tests) ≡ v
+                → verdict (stand-in tolerance (rows-of rs) (read d) .tests) ≡ v
             unfolding stand-in read
             last-tests q =
                 later _ (test-passed 10 _ _ (ap not (row-filled rs r near found))
@@ -183,33 +183,34 @@ module _ (d : PointDay) (rs : StandInRows) (n r : ℕ) (u : Usable d rs n r) (ul
       ∙ ap too-large (sym (read-opened (pos n) ps d (row .few)))
       ∙ ap (λ (e : PointDay). too-large (read e .users)) next-is
 
-  tests : {v : Verdict} → verdict ((11 when negative (amounts-of ps)) ∷ (12 when too-large (opened (net-of (d .measurement)) ps)) ∷ []) ≡ v
-      → verdict (stand-in TOLERANCE (rows-of rs) (read d) .tests) ≡ v
-  tests = last-tests d (u .sized) (u .taken) rs (u .stage) (u .right) (u .measured) n (u .net) (u .beyond) r (u .nearest) (u .found)
+  module _ (tolerance : ℕ) (beyond : leb n tolerance ≡ false) where
+    tests : {v : Verdict} → verdict ((11 when negative (amounts-of ps)) ∷ (12 when too-large (opened (net-of (d .measurement)) ps)) ∷ []) ≡ v
+        → verdict (stand-in tolerance (rows-of rs) (read d) .tests) ≡ v
+    tests = last-tests d (u .sized) (u .taken) rs tolerance (u .stage) (u .right) (u .measured) n (u .net) beyond r (u .nearest) (u .found)
 
-  pub stand-in-11 : negative zs ≡ true → outcome (refused 11) d ≡ called (stand-in TOLERANCE (rows-of rs)) d
-  stand-in-11 h = called-refused (stand-in TOLERANCE (rows-of rs)) d 11 (u .taken) (tests (test-holds 11 _ _ (negative-is ∙ h)))
+    pub stand-in-11 : negative zs ≡ true → outcome (refused 11) d ≡ called (stand-in tolerance (rows-of rs)) d
+    stand-in-11 h = called-refused (stand-in tolerance (rows-of rs)) d 11 (u .taken) (tests (test-holds 11 _ _ (negative-is ∙ h)))
 
-  module _ (above : negative zs ≡ false) where
-    pub stand-in-12 : too-large (read next .users) ≡ true → outcome (refused 12) d ≡ called (stand-in TOLERANCE (rows-of rs)) d
-    stand-in-12 h =
-        called-refused (stand-in TOLERANCE (rows-of rs)) d 12 (u .taken) (tests (test-passed 11 _ _ (negative-is ∙ above) (test-holds 12 _ _ (large-is ∙ h))))
+    module _ (above : negative zs ≡ false) where
+      pub stand-in-12 : too-large (read next .users) ≡ true → outcome (refused 12) d ≡ called (stand-in tolerance (rows-of rs)) d
+      stand-in-12 h =
+          called-refused (stand-in tolerance (rows-of rs)) d 12 (u .taken) (tests (test-passed 11 _ _ (negative-is ∙ above) (test-holds 12 _ _ (large-is ∙ h))))
 
-    after-is : laid (stand-in TOLERANCE (rows-of rs) (read d) .after) ≡ next
-    unfolding stand-in
-    after-is =
-        ap₂ (λ x qs. laid (allotted-with (opened x qs) (read d))) (net-read ∙ sym (u .net)) (row-used rs r (u .nearest) (u .found))
-        ∙ laid-opened (pos n) ps d (row .few)
-        ∙ next-is
-      where
-        net-read : net (read d) ≡ net-of (d .measurement)
-        net-read = unfold read in refl
+      after-is : laid (stand-in tolerance (rows-of rs) (read d) .after) ≡ next
+      unfolding stand-in
+      after-is =
+          ap₂ (λ x qs. laid (allotted-with (opened x qs) (read d))) (net-read ∙ sym (u .net)) (row-used rs r (u .nearest) (u .found))
+          ∙ laid-opened (pos n) ps d (row .few)
+          ∙ next-is
+        where
+          net-read : net (read d) ≡ net-of (d .measurement)
+          net-read = unfold read in refl
 
-    answer-is : stand-in TOLERANCE (rows-of rs) (read d) .answer ≡ rows-looked-at (r + 1)
-    unfolding stand-in
-    answer-is = ap rows-looked-at (rows-passed rs r (u .nearest) (u .found))
+      answer-is : stand-in tolerance (rows-of rs) (read d) .answer ≡ rows-looked-at (r + 1)
+      unfolding stand-in
+      answer-is = ap rows-looked-at (rows-passed rs r (u .nearest) (u .found))
 
-    pub stand-in-done : too-large (read next .users) ≡ false → outcome (rows-looked-at (r + 1)) next ≡ called (stand-in TOLERANCE (rows-of rs)) d
-    stand-in-done h =
-        ap₂ (λ (a : Answer) (e : PointDay). outcome a e) (sym answer-is) (sym after-is)
-        ∙ called-accepted (stand-in TOLERANCE (rows-of rs)) d (u .taken) (tests (test-passed 11 _ _ (negative-is ∙ above) (test-passed 12 _ _ (large-is ∙ h) none-left)))
+      pub stand-in-done : too-large (read next .users) ≡ false → outcome (rows-looked-at (r + 1)) next ≡ called (stand-in tolerance (rows-of rs)) d
+      stand-in-done h =
+          ap₂ (λ (a : Answer) (e : PointDay). outcome a e) (sym answer-is) (sym after-is)
+          ∙ called-accepted (stand-in tolerance (rows-of rs)) d (u .taken) (tests (test-passed 11 _ _ (negative-is ∙ above) (test-passed 12 _ _ (large-is ∙ h) none-left)))

@@ -3,11 +3,11 @@ use mathlib.Core.Bool.{true, false, not}
 use mathlib.Core.List.{List}
 use mathlib.Core.Path.{_≡_}
 use Prim.Native.Nat.{ℕ, _<_}
-use lib.Dec.{leb, eqb}
+use lib.Dec.{eqb}
 use lib.IntN.{ℤ, pos}
 use lib.ListN.{length, replicate}
 use Rattle.numbers.specs.Lists.{both, every}
-use Rattle.point_day.specs.Limits.{USERS, CELLS, ROWS, TOLERANCE}
+use Rattle.point_day.specs.Limits.{USERS, CELLS, ROWS}
 use Rattle.point_day.specs.Fields.{set-allotted, set-count, set-users, set-consumption, set-losses, set-balance, set-revision}
 use Rattle.point_day.specs.Day.{is-measured, net-of, provisional}
 use Rattle.point_day.specs.Calls.{row-right}
@@ -16,7 +16,7 @@ use Rattle.point_day.specs.declared.PointDay.{PointDay}
 use Rattle.point_day.specs.declared.StandInRows.{StandInRows}
 use Rattle.stand_in_rows.specs.Rows.{Nearest}
 
--- all tests but the last two are passed; n is net, and r the place of the row that is used
+-- all tests but the last two are passed, if net is above the tolerance; n is net, and r the place of the row that is used
 pub record Usable (d : PointDay) (rs : StandInRows) (n r : ℕ) : Type 0 where
   pub taken : taken d ≡ true
   pub sized : Sized d
@@ -24,7 +24,6 @@ pub record Usable (d : PointDay) (rs : StandInRows) (n r : ℕ) : Type 0 where
   pub right : every row-right (rows-of rs) ≡ true
   pub measured : is-measured (d .measurement) ≡ true
   pub net : pos n ≡ net-of (d .measurement)
-  pub beyond : leb n TOLERANCE ≡ false
   pub nearest : Nearest (rs .counts) r
   pub found : r < ROWS
 

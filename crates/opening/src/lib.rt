@@ -1,16 +1,16 @@
 // Opening a day with a list: its users join, and net is prorated over them.
 ghost use mathlib.Core.Path.{_≡_};
-ghost use mathlib.Core.Bool.{not};
+ghost use mathlib.Core.Bool.{false, not};
 ghost use mathlib.Core.List.{map, _++_};
 ghost use Prim.Native.Nat.{ℕ, _≤_, _<_};
-ghost use lib.Dec.{eqb};
+ghost use lib.Dec.{leb, eqb};
 ghost use lib.IntN.{pos, natAbs};
 ghost use lib.ListN.{length, drop, replicate};
 ghost use Rattle.numbers.specs.Sums.{atZ};
 ghost use Rattle.numbers.specs.Lists.{both};
 ghost use Rattle.numbers.specs.Amounts.{Within};
 ghost use Rattle.proration.specs.Proration.{prorateZ};
-ghost use Rattle.point_day.specs.Limits.{USERS, LIMIT, AMOUNT, TOLERANCE};
+ghost use Rattle.point_day.specs.Limits.{USERS, LIMIT, AMOUNT};
 ghost use Rattle.point_day.specs.Day.{provisional};
 ghost use Rattle.point_day.specs.Calls.{refused, stand-in};
 ghost use Rattle.point_day.specs.Answers.{answer-of};
@@ -91,7 +91,7 @@ pub fn opened(day: PointDay, users: &[u16], shares: [i64; USERS]) -> PointDay
     }
 }
 
-// A row used: net prorated over its users by its amounts.
+// A row used, whatever the tolerance that net is above: net prorated over its users by its amounts.
 pub fn use_row<'a>(
     day: PointDay,
     net: u64,
@@ -101,7 +101,7 @@ pub fn use_row<'a>(
     amounts: &'a [i64; PAIRS],
 ) -> Outcome
     requires { ⌜ Usable day (rows (now counts) (now users) (now amounts)) net row ⌝ }
-    ensures { λ r. ⌜ outcome (answer-of (r .answer)) (r .day) ≡ called (stand-in TOLERANCE (rows-of (rows (now (counts .entry)) (now (users .entry)) (now (amounts .entry))))) day ⌝ }
+    ensures { λ r. ⌜ ((tolerance : ℕ) → leb net tolerance ≡ false → outcome (answer-of (r .answer)) (r .day) ≡ called (stand-in tolerance (rows-of (rows (now (counts .entry)) (now (users .entry)) (now (amounts .entry))))) day) ⌝ }
 {
     let all_users = &users[..];
     let all_amounts = &amounts[..];

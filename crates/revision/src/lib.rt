@@ -1,6 +1,8 @@
 // Revise: what net has over everything allotted, assigned to the users if it lies outside the tolerance.
 ghost use mathlib.Core.Path.{_≡_};
+ghost use Prim.Native.Nat.{_≤_};
 ghost use Rattle.numbers.specs.Lists.{both};
+ghost use Rattle.numbers.specs.Amounts.{SAFE};
 ghost use Rattle.point_day.specs.Limits.{TOLERANCE};
 ghost use Rattle.point_day.specs.Day.{provisional};
 ghost use Rattle.point_day.specs.Calls.{within-tolerance, revise};
@@ -32,9 +34,10 @@ fn within(amount: i64, day: PointDay) -> Outcome
     }
 }
 
-// Revise: what net has over everything allotted, if outside tolerance, is added to the revisions.
-pub fn revise(day: PointDay) -> Outcome
-    ensures { λ r. ⌜ outcome (answer-of (r .answer)) (r .day) ≡ called (revise TOLERANCE) day ⌝ }
+// Revise by a tolerance: what net has over everything allotted, if outside it, is added to the revisions.
+pub fn revise_by(day: PointDay, tolerance: u64) -> Outcome
+    requires { ⌜ tolerance ≤ SAFE ⌝ }
+    ensures { λ r. ⌜ outcome (answer-of (r .answer)) (r .day) ≡ called (revise tolerance) day ⌝ }
 {
     if !taken::is_taken(day) {
         return point_day::refuse(2, day);
@@ -45,11 +48,18 @@ pub fn revise(day: PointDay) -> Outcome
     }
     let column = outstanding::whole_column(day);
     let amount = outstanding::outstanding(day, column);
-    if numbers::size_at_most(amount, TOLERANCE) {
+    if numbers::size_at_most(amount, tolerance) {
         return within(amount, day);
     }
     if columns::any_negative(&column) {
         return point_day::refuse(11, day);
     }
     assignment::assign(day, amount, column)
+}
+
+// Revise.
+pub fn revise(day: PointDay) -> Outcome
+    ensures { λ r. ⌜ outcome (answer-of (r .answer)) (r .day) ≡ called (revise TOLERANCE) day ⌝ }
+{
+    revise_by(day, TOLERANCE)
 }

@@ -10,9 +10,9 @@ use point_day::ROWS;
 use point_day::StandInRows;
 use point_day::TOLERANCE;
 
-// Stand-in: the users of the nearest row with any pair join, and net is prorated over them.
-pub fn stand_in(day: PointDay, rows: StandInRows) -> Outcome
-    ensures { λ r. ⌜ outcome (answer-of (r .answer)) (r .day) ≡ called (stand-in TOLERANCE (rows-of rows)) day ⌝ }
+// Stand-in, if net is above a tolerance: the users of the nearest row with any pair join, and net is prorated over them.
+pub fn stand_in_by(day: PointDay, rows: StandInRows, tolerance: u64) -> Outcome
+    ensures { λ r. ⌜ outcome (answer-of (r .answer)) (r .day) ≡ called (stand-in tolerance (rows-of rows)) day ⌝ }
 {
     if !taken::is_taken(day) {
         return point_day::refuse(2, day);
@@ -29,7 +29,7 @@ pub fn stand_in(day: PointDay, rows: StandInRows) -> Outcome
         return point_day::refuse(7, day);
     }
     let net = state::net(measurement);
-    if net <= TOLERANCE {
+    if net <= tolerance {
         return point_day::refuse(9, day);
     }
     let row = stand_in_rows::nearest_filled(&rows.counts);
@@ -37,4 +37,11 @@ pub fn stand_in(day: PointDay, rows: StandInRows) -> Outcome
         return point_day::refuse(10, day);
     }
     opening::use_row(day, net, row, &rows.counts, &rows.users, &rows.amounts)
+}
+
+// Stand-in.
+pub fn stand_in(day: PointDay, rows: StandInRows) -> Outcome
+    ensures { λ r. ⌜ outcome (answer-of (r .answer)) (r .day) ≡ called (stand-in TOLERANCE (rows-of rows)) day ⌝ }
+{
+    stand_in_by(day, rows, TOLERANCE)
 }

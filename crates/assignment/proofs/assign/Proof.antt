@@ -7,7 +7,6 @@ use Rattle.numbers.specs.Lists.{zip}
 use Rattle.numbers.proofs.Lists.{both-snd}
 use Rattle.numbers.proofs.Amounts.{widen}
 use Rattle.point_day.specs.Fields.{set-revision}
-use Rattle.point_day.specs.Limits.{TOLERANCE}
 use Rattle.point_day.specs.Day.{provisional, too-large}
 use Rattle.point_day.specs.Calls.{revision-assigned}
 use Rattle.point_day.specs.Struct.{read, outcome}
@@ -35,8 +34,8 @@ added-requires c κs =
     let small = shares-small d (p .sized) (p .taken) (outstanding d) (amount-small d (p .sized) (p .taken) refl) in
     (λ i. widen (revisions-small d (p .sized) (p .taken) i) (lit≤ tt), λ i. rw s (widen (small i) (lit≤ tt)))
 
-set-revision-requires : tie.Need-set-revision-requires
-set-revision-requires c κs = search needs
+with-revision-requires : tie.Need-with-revision-requires
+with-revision-requires c κs = search needs
 
 any-too-large-requires : tie.Need-any-too-large-requires
 any-too-large-requires c κs =
@@ -52,7 +51,7 @@ refuse-requires : tie.Need-refuse-requires
 refuse-requires c κs = search needs
 
 returns : tie.Need-returns
-returns c =
+returns c tolerance beyond =
     let d = c .before .before .before .before .before .before .before .args .day in
     let p = c .before .before .before .before .before .before .before .pre .0 in
     let f = toZ-ofZ (c .before .before .before .before .before .before .before .fits .amount) in
@@ -60,10 +59,10 @@ returns c =
     let e : c .before .before .before .with-revision .result ≡ set-revision (zip _+ℤ_ (d .revision) (shares (outstanding d) d)) d =
     c .before .before .before .with-revision .ensures ∙ ap (λ l. set-revision l d) (c .before .before .before .before .added .ensures ∙ ap (zip _+ℤ_ (d .revision)) s) in
     let large = sym (ap (λ (x : PointDay). too-large (read x .users)) e) ∙ sym (c .before .before .any-too-large .ensures) in
-    c .refuse .ensures ∙ revise-12 d (p .sized) (p .taken) TOLERANCE (p .stage) (p .beyond) (p .weights) (large ∙ c .before .if1 .taken)
+    c .refuse .ensures ∙ revise-12 d (p .sized) (p .taken) tolerance (p .stage) beyond (p .weights) (large ∙ c .before .if1 .taken)
 
 returns-2 : tie.Need-returns-2
-returns-2 c =
+returns-2 c tolerance beyond =
     let d = c .before .before .before .before .before .before .args .day in
     let p = c .before .before .before .before .before .before .pre .0 in
     let f = toZ-ofZ (c .before .before .before .before .before .before .fits .amount) in
@@ -72,7 +71,7 @@ returns-2 c =
     c .before .before .with-revision .ensures ∙ ap (λ l. set-revision l d) (c .before .before .before .added .ensures ∙ ap (zip _+ℤ_ (d .revision)) s) in
     let large = sym (ap (λ (x : PointDay). too-large (read x .users)) e) ∙ sym (c .before .any-too-large .ensures) in
     ap₂ (λ (R : ℤ) (x : PointDay). outcome (revision-assigned R) x) (f ∙ p .amount) e
-    ∙ revise-done d (p .sized) (p .taken) TOLERANCE (p .stage) (p .beyond) (p .weights) (large ∙ c .if1 .left)
+    ∙ revise-done d (p .sized) (p .taken) tolerance (p .stage) beyond (p .weights) (large ∙ c .if1 .left)
 
 pub assign-spec : {M : Type 1} → statement M
 assign-spec =
@@ -80,7 +79,7 @@ assign-spec =
     (tie.spec
     share-column-requires
     added-requires
-    set-revision-requires
+    with-revision-requires
     any-too-large-requires
     refuse-requires
     returns

@@ -22,14 +22,14 @@ returns c =
     let s = c .before in
     let m = s .args .limit in
     let t = rw (toZ-ofZ (s .fits .x), toZ-pos w64 {n = m} (omega arith), zero-sub, back (within-neg (within-pos m)) (omega arith)) at (c .if1 .taken) in
-    sym (lt-leb (natAbs (s .args .x)) m (below-size (s .args .x) m (omega arith) t))
+    sym (lt-leb (natAbs (s .args .x)) m (below-size (s .args .x) m t))
 
 returns-2 : tie.Need-returns-2
 returns-2 c =
     let s = c .before in
     let m = s .args .limit in
     let t = rw (toZ-ofZ (s .fits .x), toZ-pos w64 {n = m} (omega arith), zero-sub, back (within-neg (within-pos m)) (omega arith)) at (c .if1 .left) in
-    rw (toZ-ofZ (s .fits .x), toZ-pos w64 {n = m} (omega arith)) (above-size (s .args .x) m (omega arith) t)
+    rw (toZ-ofZ (s .fits .x), toZ-pos w64 {n = m} (omega arith)) (above-size (s .args .x) m t)
 
 pub size-at-most-spec : {M : Type 1} → statement M
 size-at-most-spec = tie.close (tie.spec cast-high sub-if1 returns returns-2)

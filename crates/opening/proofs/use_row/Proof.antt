@@ -76,13 +76,13 @@ refuse-requires : tie.Need-refuse-requires
 refuse-requires c κs = search needs
 
 returns : tie.Need-returns
-returns c =
+returns c tolerance beyond =
     let a = c .before .before .before .before .before .before .before .before .args in
     let rs = rows (a .counts .now) (a .users .now) (a .amounts .now) in
     let p = c .before .before .before .before .before .before .before .before .pre in
     let ul : length (a .users .now) ≡ USERS * ROWS = omega arith in
     let zl : length (a .amounts .now) ≡ USERS * ROWS = omega arith in
-    c .refuse .ensures ∙ stand-in-11 (a .day) rs (a .net) (a .row) p ul zl (sym (c .before .before .any-negative .ensures) ∙ c .before .if1 .taken)
+    c .refuse .ensures ∙ stand-in-11 (a .day) rs (a .net) (a .row) p ul zl tolerance beyond (sym (c .before .before .any-negative .ensures) ∙ c .before .if1 .taken)
 
 share-column-requires : tie.Need-share-column-requires
 share-column-requires c κs =
@@ -117,7 +117,7 @@ refuse-requires-2 : tie.Need-refuse-requires-2
 refuse-requires-2 c κs = search needs
 
 returns-2 : tie.Need-returns-2
-returns-2 c =
+returns-2 c tolerance beyond =
     let a = c .before .before .before .before .before .before .before .before .before .before .before .before .args in
     let rs = rows (a .counts .now) (a .users .now) (a .amounts .now) in
     let p = c .before .before .before .before .before .before .before .before .before .before .before .before .pre in
@@ -127,13 +127,13 @@ returns-2 c =
     c .before .before .before .opened .ensures ∙ ap (λ l. opened-with (us (a .day) rs (a .net) (a .row) p ul zl) l (a .day)) (c .before .before .before .before .share-column .ensures) in
     let above = sym (c .before .before .before .before .before .before .any-negative .ensures) ∙ c .before .before .before .before .before .if1 .left in
     let large = sym (ap (λ (x : PointDay). too-large (read x .users)) e) ∙ sym (c .before .before .any-too-large .ensures) in
-    c .refuse2 .ensures ∙ stand-in-12 (a .day) rs (a .net) (a .row) p ul zl above (large ∙ c .before .if2 .taken)
+    c .refuse2 .ensures ∙ stand-in-12 (a .day) rs (a .net) (a .row) p ul zl tolerance beyond above (large ∙ c .before .if2 .taken)
 
 add-t17 : tie.Need-add-t17
 add-t17 c = search needs
 
 returns-3 : tie.Need-returns-3
-returns-3 c =
+returns-3 c tolerance beyond =
     let a = c .before .before .before .before .before .before .before .before .before .before .before .args in
     let rs = rows (a .counts .now) (a .users .now) (a .amounts .now) in
     let p = c .before .before .before .before .before .before .before .before .before .before .before .pre in
@@ -143,7 +143,7 @@ returns-3 c =
     c .before .before .opened .ensures ∙ ap (λ l. opened-with (us (a .day) rs (a .net) (a .row) p ul zl) l (a .day)) (c .before .before .before .share-column .ensures) in
     let above = sym (c .before .before .before .before .before .any-negative .ensures) ∙ c .before .before .before .before .if1 .left in
     let large = sym (ap (λ (x : PointDay). too-large (read x .users)) e) ∙ sym (c .before .any-too-large .ensures) in
-    ap (λ (x : PointDay). outcome (rows-looked-at (a .row + 1)) x) e ∙ stand-in-done (a .day) rs (a .net) (a .row) p ul zl above (large ∙ c .if2 .left)
+    ap (λ (x : PointDay). outcome (rows-looked-at (a .row + 1)) x) e ∙ stand-in-done (a .day) rs (a .net) (a .row) p ul zl tolerance beyond above (large ∙ c .if2 .left)
 
 pub use-row-spec : {M : Type 1} → statement M
 use-row-spec =

@@ -1,4 +1,4 @@
--- `revision::revise` meets its contract, outcome by outcome. Assumes nothing.
+-- `revision::revise_by` meets its contract, outcome by outcome. Assumes nothing.
 use mathlib.Core.Path.{_≡_, sym, ap, _∙_}
 use mathlib.Core.Bool.{true}
 use lib.Dec.{lit<}
@@ -7,7 +7,6 @@ use mir.Syntax.{w64}
 use mir.Val.{ofZ, toZ}
 use borrow.Author.Tests.{not-true, not-false}
 use Rattle.numbers.proofs.Amounts.{back}
-use Rattle.point_day.specs.Limits.{TOLERANCE}
 use Rattle.point_day.specs.Day.{no-more}
 use Rattle.point_day.specs.Calls.{within-tolerance, negative}
 use Rattle.point_day.specs.Struct.{taken, outcome}
@@ -15,8 +14,8 @@ use Rattle.point_day.proofs.Called.{called-untaken}
 use Rattle.outstanding.specs.Revisions.{outstanding}
 use Rattle.assignment.proofs.Revising.{revise-1, revise-within, revise-11}
 use borrow.Author.Needs.{needs}
-use Rattle.revision.proofs.revise.Statement.{statement}
-use Rattle.revision.proofs.revise.Tie as tie
+use Rattle.revision.proofs.revise_by.Statement.{statement}
+use Rattle.revision.proofs.revise_by.Tie as tie
 
 is-taken-requires : tie.Need-is-taken-requires
 is-taken-requires c κs = search needs
@@ -38,7 +37,7 @@ returns-2 c =
     let d = c .before .before .before .before .before .args .day in
     let z = c .before .before .before .before .is-taken .ensures .1 in
     let t : taken d ≡ true = sym (c .before .before .before .before .is-taken .ensures .0) ∙ not-false _ (c .before .before .before .if1 .left) in
-    c .refuse2 .ensures ∙ revise-1 d z t TOLERANCE (sym (c .before .before .is-revisable .ensures) ∙ not-true _ (c .before .if2 .taken))
+    c .refuse2 .ensures ∙ revise-1 d z t (c .before .before .before .before .before .args .tolerance) (sym (c .before .before .is-revisable .ensures) ∙ not-true _ (c .before .if2 .taken))
 
 whole-column-requires : tie.Need-whole-column-requires
 whole-column-requires c κs =
@@ -67,8 +66,8 @@ returns-3 c =
     let t : taken d ≡ true = sym (c .before .before .before .before .before .before .before .before .is-taken .ensures .0) ∙ not-false _ (c .before .before .before .before .before .before .before .if1 .left) in
     let o = sym (c .before .before .before .before .before .before .is-revisable .ensures) ∙ not-false _ (c .before .before .before .before .before .if2 .left) in
     let e : toZ w64 (ofZ w64 (c .before .before .before .outstanding .result)) ≡ outstanding d = back (c .before .before .before .outstanding .ensures .1) (lit< tt) ∙ c .before .before .before .outstanding .ensures .0 in
-    let m = sym (ap (no-more TOLERANCE) e) ∙ sym (c .before .before .size-at-most .ensures) in
-    c .within .ensures ∙ ap (λ (x : ℤ). outcome (within-tolerance x) d) e ∙ revise-within d z t TOLERANCE o (m ∙ c .before .if3 .taken)
+    let m = sym (ap (no-more (c .before .before .before .before .before .before .before .before .before .args .tolerance)) e) ∙ sym (c .before .before .size-at-most .ensures) in
+    c .within .ensures ∙ ap (λ (x : ℤ). outcome (within-tolerance x) d) e ∙ revise-within d z t (c .before .before .before .before .before .before .before .before .before .args .tolerance) o (m ∙ c .before .if3 .taken)
 
 slice-aggregate-any-negative : tie.Need-slice-aggregate-any-negative
 slice-aggregate-any-negative c = search needs
@@ -86,9 +85,9 @@ returns-4 c =
     let t : taken d ≡ true = sym (c .before .before .before .before .before .before .before .before .before .before .before .is-taken .ensures .0) ∙ not-false _ (c .before .before .before .before .before .before .before .before .before .before .if1 .left) in
     let o = sym (c .before .before .before .before .before .before .before .before .before .is-revisable .ensures) ∙ not-false _ (c .before .before .before .before .before .before .before .before .if2 .left) in
     let e : toZ w64 (ofZ w64 (c .before .before .before .before .before .before .outstanding .result)) ≡ outstanding d = back (c .before .before .before .before .before .before .outstanding .ensures .1) (lit< tt) ∙ c .before .before .before .before .before .before .outstanding .ensures .0 in
-    let m = sym (ap (no-more TOLERANCE) e) ∙ sym (c .before .before .before .before .before .size-at-most .ensures) in
+    let m = sym (ap (no-more (c .before .before .before .before .before .before .before .before .before .before .before .before .args .tolerance)) e) ∙ sym (c .before .before .before .before .before .size-at-most .ensures) in
     let n = sym (ap negative (c .before .before .before .before .before .before .before .whole-column .ensures)) ∙ sym (c .before .before .any-negative .ensures) in
-    c .refuse3 .ensures ∙ revise-11 d z t TOLERANCE o (m ∙ c .before .before .before .before .if3 .left) (n ∙ c .before .if4 .taken)
+    c .refuse3 .ensures ∙ revise-11 d z t (c .before .before .before .before .before .before .before .before .before .before .before .before .args .tolerance) o (m ∙ c .before .before .before .before .if3 .left) (n ∙ c .before .if4 .taken)
 
 assign-requires : tie.Need-assign-requires
 assign-requires c κs =
@@ -97,15 +96,20 @@ assign-requires c κs =
     let t : taken d ≡ true = sym (c .before .before .before .before .before .before .before .before .before .before .is-taken .ensures .0) ∙ not-false _ (c .before .before .before .before .before .before .before .before .before .if1 .left) in
     let o = sym (c .before .before .before .before .before .before .before .before .is-revisable .ensures) ∙ not-false _ (c .before .before .before .before .before .before .before .if2 .left) in
     let e : toZ w64 (ofZ w64 (c .before .before .before .before .before .outstanding .result)) ≡ outstanding d = back (c .before .before .before .before .before .outstanding .ensures .1) (lit< tt) ∙ c .before .before .before .before .before .outstanding .ensures .0 in
-    let m = sym (ap (no-more TOLERANCE) e) ∙ sym (c .before .before .before .before .size-at-most .ensures) in
+    let m = sym (ap (no-more (c .before .before .before .before .before .before .before .before .before .before .before .args .tolerance)) e) ∙ sym (c .before .before .before .before .size-at-most .ensures) in
     let n = sym (ap negative (c .before .before .before .before .before .before .whole-column .ensures)) ∙ sym (c .before .any-negative .ensures) in
-    (record { taken = t; sized = z; stage = o; amount = e; beyond = m ∙ c .before .before .before .if3 .left; weights = n ∙ c .if4 .left }, c .before .before .before .before .before .before .whole-column .ensures)
+    (record { taken = t; sized = z; stage = o; amount = e; weights = n ∙ c .if4 .left }, c .before .before .before .before .before .before .whole-column .ensures)
 
 returns-5 : tie.Need-returns-5
-returns-5 c = search needs
+returns-5 c =
+    let s = c .before .before .before .before .before .before .before .before .before .before .before .before in
+    let d = s .args .day in
+    let e : toZ w64 (ofZ w64 (c .before .before .before .before .before .before .outstanding .result)) ≡ outstanding d = back (c .before .before .before .before .before .before .outstanding .ensures .1) (lit< tt) ∙ c .before .before .before .before .before .before .outstanding .ensures .0 in
+    let m = sym (ap (no-more (s .args .tolerance)) e) ∙ sym (c .before .before .before .before .before .size-at-most .ensures) in
+    c .assign .ensures (s .args .tolerance) (m ∙ c .before .before .before .before .if3 .left)
 
-pub revise-spec : {M : Type 1} → statement M
-revise-spec =
+pub revise-by-spec : {M : Type 1} → statement M
+revise-by-spec =
     tie.close
     (tie.spec
     is-taken-requires
