@@ -1,4 +1,8 @@
-// The calls that split an amount: of either sign, and for programs in other languages.
+// How a split is found: the units left over, a split by largest remainder, and the calls, for an amount of either sign and for programs in
+// other languages.
+pub mod largest_remainder;
+mod leftover;
+
 ghost use mathlib.Core.Path.{_≡_};
 ghost use mathlib.Core.List.{_++_};
 ghost use Prim.Native.Nat.{ℕ, _≤_, _<_};
