@@ -4,14 +4,14 @@ ghost use mathlib.Core.List.{_++_};
 ghost use Prim.Native.Nat.{_≤_, _<_};
 ghost use lib.ListN.{length, drop, replicate};
 ghost use Rattle.numbers.specs.Sums.{total, Bounded};
-ghost use Rattle.proration.specs.Proration.{PARTIES, AMOUNT, WEIGHT, split, prorate};
+ghost use Rattle.proration.specs.Proration.{PARTIES, LARGEST-AMOUNT, LARGEST-WEIGHT, split, prorate};
 use super::leftover;
 use super::leftover::FEW;
 use proration::PARTIES;
 
 // The shares of the amount over weights whose sum, `whole`, is above 0; `rems` is scratch.
 fn split(amount: u64, ws: &[u64], whole: u64, keys: &[u64], rems: &mut [u64], shares: &mut [u64])
-    requires { ⌜ (amount ≤ AMOUNT) × (0 < whole) × (whole ≡ total (now ws)) × Bounded WEIGHT (now ws) ⌝ }
+    requires { ⌜ (amount ≤ LARGEST-AMOUNT) × (0 < whole) × (whole ≡ total (now ws)) × Bounded LARGEST-WEIGHT (now ws) ⌝ }
     requires { ⌜ (length (now ws) ≤ length (now keys)) × (length (now rems) ≡ length (now ws)) × (length (now ws) ≤ length (now shares)) ⌝ }
     ensures { λ _. ⌜ now (shares .exit) ≡ split amount (now (ws .entry)) (now (keys .entry)) ++ drop (length (now (ws .entry))) (now (shares .entry)) ⌝ }
 {
@@ -34,7 +34,7 @@ pub(crate) fn many(x: u64) -> [u64; PARTIES]
 
 // The shares of the amount over weights whose sum, `whole`, is above 0.
 fn split_counted(amount: u64, ws: &[u64], whole: u64, keys: &[u64], shares: &mut [u64])
-    requires { ⌜ (amount ≤ AMOUNT) × (0 < whole) × (whole ≡ total (now ws)) × (length (now ws) ≤ PARTIES) × Bounded WEIGHT (now ws) ⌝ }
+    requires { ⌜ (amount ≤ LARGEST-AMOUNT) × (0 < whole) × (whole ≡ total (now ws)) × (length (now ws) ≤ PARTIES) × Bounded LARGEST-WEIGHT (now ws) ⌝ }
     requires { ⌜ (length (now ws) ≤ length (now keys)) × (length (now ws) ≤ length (now shares)) ⌝ }
     ensures { λ _. ⌜ now (shares .exit) ≡ split amount (now (ws .entry)) (now (keys .entry)) ++ drop (length (now (ws .entry))) (now (shares .entry)) ⌝ }
 {
@@ -50,7 +50,7 @@ fn split_counted(amount: u64, ws: &[u64], whole: u64, keys: &[u64], shares: &mut
 
 // The shares of the amount over n parties that each count as 1.
 fn split_evenly(amount: u64, n: usize, keys: &[u64], shares: &mut [u64])
-    requires { ⌜ (amount ≤ AMOUNT) × (0 < n) × (n ≤ PARTIES) × (n ≤ length (now keys)) × (n ≤ length (now shares)) ⌝ }
+    requires { ⌜ (amount ≤ LARGEST-AMOUNT) × (0 < n) × (n ≤ PARTIES) × (n ≤ length (now keys)) × (n ≤ length (now shares)) ⌝ }
     ensures { λ _. ⌜ now (shares .exit) ≡ split amount (replicate n 1) (now (keys .entry)) ++ drop n (now (shares .entry)) ⌝ }
 {
     if n <= FEW {
@@ -65,7 +65,7 @@ fn split_evenly(amount: u64, n: usize, keys: &[u64], shares: &mut [u64])
 // The amount prorated over the weights, whose sum `whole` is handed in: each counts as 1 if all are 0. Numbers of `shares` past
 // the parties stay.
 pub fn prorate(amount: u64, ws: &[u64], whole: u64, keys: &[u64], shares: &mut [u64])
-    requires { ⌜ (amount ≤ AMOUNT) × (whole ≡ total (now ws)) × (0 < length (now ws)) × (length (now ws) ≤ PARTIES) × Bounded WEIGHT (now ws) ⌝ }
+    requires { ⌜ (amount ≤ LARGEST-AMOUNT) × (whole ≡ total (now ws)) × (0 < length (now ws)) × (length (now ws) ≤ PARTIES) × Bounded LARGEST-WEIGHT (now ws) ⌝ }
     requires { ⌜ (length (now ws) ≤ length (now keys)) × (length (now ws) ≤ length (now shares)) ⌝ }
     ensures { λ _. ⌜ now (shares .exit) ≡ prorate amount (now (ws .entry)) (now (keys .entry)) ++ drop (length (now (ws .entry))) (now (shares .entry)) ⌝ }
 {

@@ -4,7 +4,7 @@ ghost use mathlib.Core.List.{_++_};
 ghost use Prim.Native.Nat.{ℕ, _≤_, _<_};
 ghost use lib.ListN.{length, drop};
 ghost use Rattle.numbers.specs.Sums.{table, at};
-ghost use Rattle.proration.specs.Proration.{AMOUNT, topped};
+ghost use Rattle.proration.specs.Proration.{LARGEST-AMOUNT, topped};
 ghost use Rattle.split.specs.Cut.{cut-at};
 
 // Up to so many parties count as few: they need only a small scratch buffer, and ties among them are ranked by counting.
@@ -13,7 +13,7 @@ pub const FEW: usize = 8;
 // One unit more to each party with fewer than `left` before it, by counting for each.
 fn serve_ranked(rems: &[u64], keys: &[u64], left: u64, shares: &mut [u64])
     requires { ⌜ (length (now rems) ≤ length (now keys)) × (length (now rems) ≤ length (now shares)) ⌝ }
-    requires { ⌜ ((i : ℕ) → i < length (now rems) → at (now shares) i ≤ AMOUNT) ⌝ }
+    requires { ⌜ ((i : ℕ) → i < length (now rems) → at (now shares) i ≤ LARGEST-AMOUNT) ⌝ }
     ensures { λ _. ⌜ now (shares .exit) ≡ table (topped (at (now (shares .entry))) (at (now (rems .entry))) (at (now (keys .entry))) left (length (now (rems .entry)))) (length (now (rems .entry))) ++ drop (length (now (rems .entry))) (now (shares .entry)) ⌝ }
 {
     let mut i = 0;
@@ -156,7 +156,7 @@ fn cut_key(rems: &[u64], keys: &[u64], x: u64, left: u64) -> u64
 // One unit more to each party that is served before the remainder x of key y.
 fn serve_ahead(rems: &[u64], keys: &[u64], x: u64, y: u64, shares: &mut [u64])
     requires { ⌜ (length (now rems) ≤ length (now keys)) × (length (now rems) ≤ length (now shares)) ⌝ }
-    requires { ⌜ ((i : ℕ) → i < length (now rems) → at (now shares) i ≤ AMOUNT) ⌝ }
+    requires { ⌜ ((i : ℕ) → i < length (now rems) → at (now shares) i ≤ LARGEST-AMOUNT) ⌝ }
     ensures { λ _. ⌜ now (shares .exit) ≡ table (cut-at (at (now (shares .entry))) (at (now (rems .entry))) (at (now (keys .entry))) x y) (length (now (rems .entry))) ++ drop (length (now (rems .entry))) (now (shares .entry)) ⌝ }
 {
     let mut i = 0;
@@ -170,7 +170,7 @@ fn serve_ahead(rems: &[u64], keys: &[u64], x: u64, y: u64, shares: &mut [u64])
 // with exactly `left` parties before it tells who is served: one count certifies it, and if it fails, each party's rank is counted.
 fn serve_tied(rems: &[u64], keys: &[u64], x: u64, left: u64, shares: &mut [u64])
     requires { ⌜ (length (now rems) ≤ length (now keys)) × (length (now rems) ≤ length (now shares)) ⌝ }
-    requires { ⌜ ((i : ℕ) → i < length (now rems) → at (now shares) i ≤ AMOUNT) ⌝ }
+    requires { ⌜ ((i : ℕ) → i < length (now rems) → at (now shares) i ≤ LARGEST-AMOUNT) ⌝ }
     ensures { λ _. ⌜ now (shares .exit) ≡ table (topped (at (now (shares .entry))) (at (now (rems .entry))) (at (now (keys .entry))) left (length (now (rems .entry)))) (length (now (rems .entry))) ++ drop (length (now (rems .entry))) (now (shares .entry)) ⌝ }
 {
     let y = cut_key(rems, keys, x, left);
@@ -184,7 +184,7 @@ fn serve_tied(rems: &[u64], keys: &[u64], x: u64, left: u64, shares: &mut [u64])
 // One unit more to each party with fewer than `left` before it, through the cut x among the remainders if it tells them apart.
 fn serve_cut(rems: &[u64], keys: &[u64], x: u64, left: u64, shares: &mut [u64])
     requires { ⌜ (length (now rems) ≤ length (now keys)) × (length (now rems) ≤ length (now shares)) ⌝ }
-    requires { ⌜ ((i : ℕ) → i < length (now rems) → at (now shares) i ≤ AMOUNT) ⌝ }
+    requires { ⌜ ((i : ℕ) → i < length (now rems) → at (now shares) i ≤ LARGEST-AMOUNT) ⌝ }
     ensures { λ _. ⌜ now (shares .exit) ≡ table (topped (at (now (shares .entry))) (at (now (rems .entry))) (at (now (keys .entry))) left (length (now (rems .entry)))) (length (now (rems .entry))) ++ drop (length (now (rems .entry))) (now (shares .entry)) ⌝ }
 {
     if proration::count_ahead(rems, keys, x, 0) == left {
@@ -201,7 +201,7 @@ fn serve_cut(rems: &[u64], keys: &[u64], x: u64, left: u64, shares: &mut [u64])
 // One unit more to each party with fewer than `left` before it.
 pub fn serve(rems: &[u64], keys: &[u64], left: u64, shares: &mut [u64])
     requires { ⌜ (length (now rems) ≤ length (now keys)) × (length (now rems) ≤ length (now shares)) ⌝ }
-    requires { ⌜ ((i : ℕ) → i < length (now rems) → at (now shares) i ≤ AMOUNT) ⌝ }
+    requires { ⌜ ((i : ℕ) → i < length (now rems) → at (now shares) i ≤ LARGEST-AMOUNT) ⌝ }
     ensures { λ _. ⌜ now (shares .exit) ≡ table (topped (at (now (shares .entry))) (at (now (rems .entry))) (at (now (keys .entry))) left (length (now (rems .entry)))) (length (now (rems .entry))) ++ drop (length (now (rems .entry))) (now (shares .entry)) ⌝ }
 {
     if left == 0 {

@@ -1,6 +1,6 @@
 -- `split::largest_remainder::split_evenly` meets its contract. Assumes nothing.
 use mathlib.Core.Path.{sym}
-use Rattle.proration.specs.Proration.{PARTIES, WEIGHT}
+use Rattle.proration.specs.Proration.{PARTIES, LARGEST-WEIGHT}
 use Rattle.proration.proofs.Prorated.{take-same, take-long, ones-total, ones-bounded, evenly}
 use borrow.Author.Needs.{needs}
 use native.Mathlib.Omega.{arith}
@@ -22,7 +22,7 @@ split-counted-requires c κs =
     let n = c .before .before .before .before .before .before .args .n in
     let e = take-same 8 n 1 (c .before .before .few .ensures) (omega arith) in
     let l = take-long 8 n 1 (c .before .before .few .ensures) (omega arith) in
-    ((p .0, p .1, sym (ones-total n e), omega arith, ones-bounded n e WEIGHT (omega arith)), (omega arith, omega arith))
+    ((p .0, p .1, sym (ones-total n e), omega arith, ones-bounded n e LARGEST-WEIGHT (omega arith)), (omega arith, omega arith))
 
 many-requires : tie.Need-many-requires
 many-requires c κs = search needs
@@ -39,7 +39,7 @@ split-counted-requires-2 c κs =
     let n = c .before .before .before .before .before .before .args .n in
     let e = take-same PARTIES n 1 (c .before .before .many .ensures) (omega arith) in
     let l = take-long PARTIES n 1 (c .before .before .many .ensures) (omega arith) in
-    ((p .0, p .1, sym (ones-total n e), omega arith, ones-bounded n e WEIGHT (omega arith)), (omega arith, omega arith))
+    ((p .0, p .1, sym (ones-total n e), omega arith, ones-bounded n e LARGEST-WEIGHT (omega arith)), (omega arith, omega arith))
 
 same-length : tie.Need-same-length
 same-length c = search needs
