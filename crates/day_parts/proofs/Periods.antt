@@ -14,7 +14,7 @@ use Rattle.numbers.specs.Lists.{every, Distinct}
 use Rattle.numbers.specs.Amounts.{Within}
 use Rattle.numbers.proofs.Sums.{length-table, getD-table}
 use Rattle.numbers.proofs.Amounts.{within-test, widen}
-use Rattle.proration.specs.Proration.{PARTIES, WEIGHT, AMOUNT as SPLIT, prorateZ}
+use Rattle.proration.specs.Proration.{PARTIES, LARGEST-WEIGHT, LARGEST-AMOUNT, prorateZ}
 use Rattle.proration.proofs.Prorated.{take-long}
 use Rattle.point_day.specs.Limits.{AMOUNT}
 use Rattle.point_day.specs.Day.{no-more}
@@ -59,15 +59,15 @@ module _ (reading : ℕ) (ws : List ℤ) (right : in-range reading ws ≡ true) 
     long-sizes : length sizes ≡ length ws
     long-sizes = sizes-long ws are
 
-    sizes-small : Bounded WEIGHT sizes
+    sizes-small : Bounded LARGEST-WEIGHT sizes
     sizes-small = sizes-bounded ws are (within-range ws (facts .weights))
 
-    pub total-asks : (length sizes ≤ PARTIES) × Bounded WEIGHT sizes
+    pub total-asks : (length sizes ≤ PARTIES) × Bounded LARGEST-WEIGHT sizes
     total-asks = (omega (arith, long-sizes, facts .few), sizes-small)
 
     module _ (n : ℕ) (long : n ≡ length ws) {keys : List ℕ} (are-days : keys ≡ days n) (out : List ℤ) where
       pub split-asks : {whole : ℕ} → whole ≡ total sizes → length ws ≤ length out
-          → (Within SPLIT (toZ w64 reading) × (whole ≡ total sizes) × (0 < length sizes) × (length sizes ≤ PARTIES) × Bounded WEIGHT sizes)
+          → (Within LARGEST-AMOUNT (toZ w64 reading) × (whole ≡ total sizes) × (0 < length sizes) × (length sizes ≤ PARTIES) × Bounded LARGEST-WEIGHT sizes)
           × ((length sizes ≤ length keys) × (length sizes ≤ length out))
       split-asks e l =
           let k = ap length are-days ∙ length-table suc n ∙ long in

@@ -1,12 +1,13 @@
 // Runs the calls on supply points and on the calendar with cases from standard input.
 mod input;
 
-use cursor::Cursor;
-use cursor::MOST_LENT;
+use console::cursor;
+use console::cursor::Cursor;
+use console::cursor::MOST_LENT;
+use console::output;
 use day_types::DayType;
 use day_types::DayTypeAnswer;
 use degree_days::DegreeDays;
-use libc::STDIN_FILENO;
 use reading::SpreadAnswer;
 use supply::Amount;
 use supply::ConsumptionAnswer;
@@ -18,9 +19,6 @@ use type_2::ProfileAnswer;
 use working_days::MonthAnswer;
 use zones::ProvinceAnswer;
 use zones::ZoneAnswer;
-
-// The most bytes of input.
-const MOST_INPUT: usize = 1048576;
 
 // The most lists of winters that are read.
 const MOST_WINTERS: u64 = 8;
@@ -413,17 +411,8 @@ fn run(s: &[u8]) {
     }
 }
 
-// Room for the most bytes of input and one more. (A call, so that no proof sees its bytes one by one.)
-fn room() -> [u8; 1048577] {
-    [0u8; 1048577]
-}
-
 fn main() {
-    let mut bytes = room();
-    let n = io::read_full(STDIN_FILENO, &mut bytes);
-    if MOST_INPUT < n {
-        output::malformed();
-        return;
-    }
-    run(&bytes[..n]);
+    let mut room = console::input_room();
+    let n = console::read_input(&mut room);
+    run(&room[..n]);
 }

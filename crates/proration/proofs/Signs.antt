@@ -11,7 +11,7 @@ use Rattle.numbers.specs.Lists.{Distinct}
 use Rattle.numbers.specs.Amounts.{Within, is-negative, signed}
 use Rattle.numbers.proofs.Sums.{length-table, getD-table, total-sum, totalZ-table}
 use Rattle.numbers.proofs.Amounts.{natAbs-neg}
-use Rattle.proration.specs.Proration.{AMOUNT, prorate, prorateZ}
+use Rattle.proration.specs.Proration.{LARGEST-AMOUNT, prorate, prorateZ}
 use Rattle.proration.proofs.Prorated.{prorate-sum, prorate-small, length-prorate}
 
 with-sum : (p : Bool) (a b : ℕ) → signed p a +ℤ signed p b ≡ signed p (a + b)
@@ -62,7 +62,7 @@ module _ (z : ℤ) (ws ks : List ℕ) (some : 0 < length ws) where
         ∙ ap₂ (λ m t. prorate m ws ks ++ t) size (drop-of-length-le s₀ {i = length ws} (omega arith))
         ∙ append-nil (prorate (natAbs z) ws ks)
 
-    pub shares-small : Within AMOUNT z → (i : ℕ) → at s i ≤ AMOUNT + 1
+    pub shares-small : Within LARGEST-AMOUNT z → (i : ℕ) → at s i ≤ LARGEST-AMOUNT + 1
     shares-small h i = omega (arith, ap (λ t. at t i) shares-are, prorate-small (natAbs z) ws ks some i, h .size)
 
     pub shares-long : length s ≡ length ws

@@ -13,11 +13,11 @@ use Rattle.numbers.specs.Amounts.{is-negative, signed}
 abbrev pub PARTIES : ℕ
 PARTIES = 366
 
-abbrev pub AMOUNT : ℕ
-AMOUNT = 1000000000
+abbrev pub LARGEST-AMOUNT : ℕ
+LARGEST-AMOUNT = 1000000000
 
-abbrev pub WEIGHT : ℕ
-WEIGHT = 2000000000
+abbrev pub LARGEST-WEIGHT : ℕ
+LARGEST-WEIGHT = 2000000000
 
 -- "equal remainders go to the lower user or kind number, or the earlier day": that number or day is a party's key.
 -- The remainder r of key k is served before r′ of key k′.

@@ -5,14 +5,14 @@ ghost use Prim.Native.Nat.{_≤_, _<_};
 ghost use lib.Dec.{ltb, leb};
 ghost use lib.ListN.{length, drop};
 ghost use Rattle.numbers.specs.Sums.{bit, sum, table, at, total, Bounded};
-ghost use Rattle.proration.specs.Proration.{PARTIES, AMOUNT, WEIGHT, ahead, floor, rem, before};
+ghost use Rattle.proration.specs.Proration.{PARTIES, LARGEST-AMOUNT, LARGEST-WEIGHT, ahead, floor, rem, before};
 
 // The most parties of a split.
 pub const PARTIES: usize = 366;
 
 // The sum of the weights, W.
 pub fn weight_total(ws: &[u64]) -> u64
-    requires { ⌜ (length (now ws) ≤ PARTIES) × Bounded WEIGHT (now ws) ⌝ }
+    requires { ⌜ (length (now ws) ≤ PARTIES) × Bounded LARGEST-WEIGHT (now ws) ⌝ }
     ensures { λ x. ⌜ x ≡ total (now (ws .entry)) ⌝ }
 {
     let mut sum: u64 = 0;
@@ -64,7 +64,7 @@ pub fn count_ahead(rems: &[u64], keys: &[u64], x: u64, y: u64) -> u64
 
 // The whole units of each party, and its remainder; returns the sum of the whole units.
 pub fn floors(amount: u64, ws: &[u64], whole: u64, shares: &mut [u64], rems: &mut [u64]) -> u64
-    requires { ⌜ (amount ≤ AMOUNT) × (0 < whole) × (whole ≡ total (now ws)) × Bounded WEIGHT (now ws) ⌝ }
+    requires { ⌜ (amount ≤ LARGEST-AMOUNT) × (0 < whole) × (whole ≡ total (now ws)) × Bounded LARGEST-WEIGHT (now ws) ⌝ }
     requires { ⌜ (length (now ws) ≤ length (now shares)) × (length (now rems) ≡ length (now ws)) ⌝ }
     ensures { λ x. ⌜ x ≡ sum (floor amount whole (at (now (ws .entry)))) (length (now (ws .entry))) ⌝ }
     ensures { λ x. ⌜ now (shares .exit) ≡ table (floor amount whole (at (now (ws .entry)))) (length (now (ws .entry))) ++ drop (length (now (ws .entry))) (now (shares .entry)) ⌝ }

@@ -4,15 +4,11 @@ ghost use mathlib.Core.Path.{_≡_};
 ghost use lib.ListN.{length};
 ghost use Rattle.io.specs.Counts.{Counts};
 ghost use Rattle.proration.specs.Proration.{PARTIES};
-use cursor::Cursor;
-use libc::STDIN_FILENO;
+use console::cursor;
+use console::cursor::Cursor;
+use console::output;
 use libc::STDOUT_FILENO;
 use proration::PARTIES;
-
-// The most bytes of input, and one byte more, by which a longer input is known.
-const MOST: usize = 1048576;
-
-const ROOM: usize = MOST + 1;
 
 // The most characters of a line's number with the space before it, and of a line.
 const FIGURE: usize = 22;
@@ -129,28 +125,15 @@ fn run(s: &[u8]) {
         }
         next = run_case(s, next);
         if !next.ok {
-            io::write_all(STDOUT_FILENO, b"malformed\n");
+            output::malformed();
             return;
         }
         turns -= 1;
     }
 }
 
-// Reads all of standard input, as far as there is room, and runs it.
-fn read_and_run(input: &mut [u8]) {
-    let n = io::read_full(STDIN_FILENO, input);
-    if n > MOST {
-        io::write_all(STDOUT_FILENO, b"malformed\n");
-        return;
-    }
-    run(&input[..n]);
-}
-
-fn input_buffer() -> [u8; ROOM] {
-    [0; ROOM]
-}
-
 fn main() {
-    let mut input = input_buffer();
-    read_and_run(&mut input);
+    let mut room = console::input_room();
+    let n = console::read_input(&mut room);
+    run(&room[..n]);
 }

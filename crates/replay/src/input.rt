@@ -1,6 +1,7 @@
 // The arguments of the calls from the input, little-endian.
 ghost use Prim.Native.Nat.{_<_};
-use cursor::Cursor;
+use console::cursor;
+use console::cursor::Cursor;
 use point_day::StandInRows;
 
 // ---- line

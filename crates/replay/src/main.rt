@@ -5,10 +5,11 @@ ghost use lib.ListN.{length};
 
 mod input;
 
-use cursor::Cursor;
-use cursor::MOST_LENT;
+use console::cursor;
+use console::cursor::Cursor;
+use console::cursor::MOST_LENT;
+use console::output;
 use inventory::InventoryAnswer;
-use libc::STDIN_FILENO;
 use libc::STDOUT_FILENO;
 use point_day::Answer;
 use point_day::Measurement;
@@ -16,9 +17,6 @@ use point_day::Outcome;
 use point_day::PointDay;
 use point_day::Stage;
 use report_text::TEXT_ROOM;
-
-// The most bytes of input.
-const MOST: usize = 1048576;
 
 // The place after an operation, and the point-day after it.
 struct After {
@@ -392,22 +390,8 @@ fn run(s: &[u8]) {
     }
 }
 
-// Reads all of standard input, as far as there is room, and runs it.
-fn read_and_run(bytes: &mut [u8]) {
-    let n = io::read_full(STDIN_FILENO, bytes);
-    if MOST < n {
-        output::malformed();
-        return;
-    }
-    run(&bytes[..n]);
-}
-
-// One byte more than the most bytes of input, so that a longer one is known.
-fn input_buffer() -> [u8; 1048577] {
-    [0; 1048577]
-}
-
 fn main() {
-    let mut bytes = input_buffer();
-    read_and_run(&mut bytes);
+    let mut room = console::input_room();
+    let n = console::read_input(&mut room);
+    run(&room[..n]);
 }

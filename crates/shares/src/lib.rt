@@ -5,7 +5,7 @@ ghost use Prim.Native.Nat.{_≤_, _<_};
 ghost use lib.ListN.{length, drop};
 ghost use Rattle.numbers.specs.Sums.{Bounded};
 ghost use Rattle.numbers.specs.Amounts.{Within};
-ghost use Rattle.proration.specs.Proration.{WEIGHT, prorateZ};
+ghost use Rattle.proration.specs.Proration.{LARGEST-WEIGHT, prorateZ};
 ghost use Rattle.point_day.specs.Limits.{USERS, KINDS, LIMIT};
 ghost use Rattle.point_day.specs.Calls.{or-kind-1, kinds};
 ghost use Rattle.weights.specs.Metered.{Metered, by-all-kinds};
@@ -65,7 +65,7 @@ pub fn share_out<'a>(
 
 // A user's share over its kinds, whose weights are `ws`.
 pub fn spread(share: i64, ws: [u64; KINDS], cells: &mut [i64])
-    requires { ⌜ Within LIMIT share × Bounded WEIGHT ws × (length (now cells) ≡ KINDS) ⌝ }
+    requires { ⌜ Within LIMIT share × Bounded LARGEST-WEIGHT ws × (length (now cells) ≡ KINDS) ⌝ }
     ensures { λ _. ⌜ now (cells .exit) ≡ prorateZ share (or-kind-1 ws) kinds ⌝ }
 {
     let keys: [u64; KINDS] = [1, 2, 3, 4, 5];

@@ -12,7 +12,7 @@ use Rattle.numbers.specs.Sums.{at, Bounded}
 use Rattle.numbers.specs.Lists.{both, every}
 use Rattle.numbers.specs.Amounts.{Within}
 use Rattle.numbers.proofs.Lists.{both-fst, both-snd, both-true}
-use Rattle.proration.specs.Proration.{PARTIES, AMOUNT, WEIGHT, prorateZ}
+use Rattle.proration.specs.Proration.{PARTIES, LARGEST-AMOUNT, LARGEST-WEIGHT, prorateZ}
 use Rattle.split.specs.Call.{in-range, answer, after}
 
 -- `every` by places
@@ -40,36 +40,36 @@ every-bounded m (x ∷ xs) h (suc i) = every-bounded m xs (both-snd (leb x m) (e
 
 -- what is known of arguments in range
 pub record Ranged (z : ℤ) (ws ks : List ℕ) : Type 0 where
-  pub amount : Within AMOUNT z
+  pub amount : Within LARGEST-AMOUNT z
   pub some : 0 < length ws
   pub few : length ws ≤ PARTIES
   pub keyed : length ws ≤ length ks
-  pub weights : Bounded WEIGHT ws
+  pub weights : Bounded LARGEST-WEIGHT ws
 
 module _ (z : ℤ) (ws ks : List ℕ) where
   pub ranged : in-range z ws ks ≡ true → Ranged z ws ks
   unfolding in-range
   ranged h =
-      let w = every (λ x. leb x WEIGHT) ws in
+      let w = every (λ x. leb x LARGEST-WEIGHT) ws in
       let n = length ws in
       let k = leb n (length ks) in
       let p = leb n PARTIES in
-      let h₁ = both-snd (leb (natAbs z) AMOUNT) (both (ltb 0 n) (both p (both k w))) h in
+      let h₁ = both-snd (leb (natAbs z) LARGEST-AMOUNT) (both (ltb 0 n) (both p (both k w))) h in
       let h₂ = both-snd (ltb 0 n) (both p (both k w)) h₁ in
       let h₃ = both-snd p (both k w) h₂ in record {
-        amount = record { size = leb-true (natAbs z) AMOUNT (both-fst (leb (natAbs z) AMOUNT) (both (ltb 0 n) (both p (both k w))) h) };
+        amount = record { size = leb-true (natAbs z) LARGEST-AMOUNT (both-fst (leb (natAbs z) LARGEST-AMOUNT) (both (ltb 0 n) (both p (both k w))) h) };
         some = ltb-true 0 n (both-fst (ltb 0 n) (both p (both k w)) h₁);
         few = leb-true n PARTIES (both-fst p (both k w) h₂);
         keyed = leb-true n (length ks) (both-fst k w h₃);
-        weights = every-bounded WEIGHT ws (both-snd k w h₃);
+        weights = every-bounded LARGEST-WEIGHT ws (both-snd k w h₃);
       }
 
   -- the tests one after the other
-  pub no-amount : leb (natAbs z) AMOUNT ≡ false → in-range z ws ks ≡ false
+  pub no-amount : leb (natAbs z) LARGEST-AMOUNT ≡ false → in-range z ws ks ≡ false
   unfolding in-range
   no-amount h = rw h
 
-  module _ (a : leb (natAbs z) AMOUNT ≡ true) where
+  module _ (a : leb (natAbs z) LARGEST-AMOUNT ≡ true) where
     pub no-party : length ws ≡ 0 → in-range z ws ks ≡ false
     unfolding in-range
     no-party h = rw (a, le-ltb 0 (length ws) (omega arith))
@@ -82,7 +82,7 @@ module _ (z : ℤ) (ws ks : List ℕ) where
     unfolding in-range
     no-key s f h = rw (a, lt-ltb 0 (length ws) s, le-leb (length ws) PARTIES f, lt-leb (length ws) (length ks) h)
 
-    pub by-weights : 0 < length ws → length ws ≤ PARTIES → length ws ≤ length ks → in-range z ws ks ≡ every (λ w. leb w WEIGHT) ws
+    pub by-weights : 0 < length ws → length ws ≤ PARTIES → length ws ≤ length ks → in-range z ws ks ≡ every (λ w. leb w LARGEST-WEIGHT) ws
     unfolding in-range
     by-weights s f k = rw (a, lt-ltb 0 (length ws) s, le-leb (length ws) PARTIES f, le-leb (length ws) (length ks) k)
 

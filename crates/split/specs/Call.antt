@@ -8,13 +8,13 @@ use lib.IntN.{ℤ, pos, negℤ, natAbs}
 use lib.ListN.{length, drop}
 use Rattle.numbers.specs.Sums.{pick}
 use Rattle.numbers.specs.Lists.{both, every}
-use Rattle.proration.specs.Proration.{PARTIES, AMOUNT, WEIGHT, prorateZ}
+use Rattle.proration.specs.Proration.{PARTIES, LARGEST-AMOUNT, LARGEST-WEIGHT, prorateZ}
 
 -- an amount, 1 to 366 weights and a key for each of them, within the limits of any split in document 01
 unfoldable pub in-range : ℤ → List ℕ → List ℕ → Bool
 in-range z ws ks =
-    both (leb (natAbs z) AMOUNT)
-    (both (ltb 0 (length ws)) (both (leb (length ws) PARTIES) (both (leb (length ws) (length ks)) (every (λ w. leb w WEIGHT) ws))))
+    both (leb (natAbs z) LARGEST-AMOUNT)
+    (both (ltb 0 (length ws)) (both (leb (length ws) PARTIES) (both (leb (length ws) (length ks)) (every (λ w. leb w LARGEST-WEIGHT) ws))))
 
 -- the number of a refusal in document 01, section "Refusals": 2, out of range; 14, a lent buffer with less than one number a party;
 -- or 0, not refused

@@ -1,4 +1,8 @@
-// The calls that split an amount: of either sign, and for programs in other languages.
+// How a split is found: the units left over, a split by largest remainder, and the calls, for an amount of either sign and for programs in
+// other languages.
+pub mod largest_remainder;
+mod leftover;
+
 ghost use mathlib.Core.Path.{_≡_};
 ghost use mathlib.Core.List.{_++_};
 ghost use Prim.Native.Nat.{ℕ, _≤_, _<_};
@@ -7,19 +11,19 @@ ghost use lib.ListN.{length, drop};
 ghost use Rattle.numbers.specs.Sums.{table, at, total, Bounded};
 ghost use Rattle.numbers.specs.Lists.{every};
 ghost use Rattle.numbers.specs.Amounts.{Within, signed};
-ghost use Rattle.proration.specs.Proration.{PARTIES, AMOUNT, WEIGHT, prorateZ};
+ghost use Rattle.proration.specs.Proration.{PARTIES, LARGEST-AMOUNT, LARGEST-WEIGHT, prorateZ};
 ghost use Rattle.split.specs.Call.{in-range, answer, after};
 use leftover::FEW;
 use proration::PARTIES;
 
 // The largest amount of a split in size, and the largest weight.
-const AMOUNT: u64 = 1_000_000_000;
+const LARGEST_AMOUNT: u64 = 1_000_000_000;
 
-const WEIGHT: u64 = 2_000_000_000;
+const LARGEST_WEIGHT: u64 = 2_000_000_000;
 
 // The shares with a sign.
 fn give(negative: bool, shares: &[u64], out: &mut [i64])
-    requires { ⌜ (length (now shares) ≤ length (now out)) × ((i : ℕ) → at (now shares) i ≤ WEIGHT) ⌝ }
+    requires { ⌜ (length (now shares) ≤ length (now out)) × ((i : ℕ) → at (now shares) i ≤ LARGEST-WEIGHT) ⌝ }
     ensures { λ _. ⌜ now (out .exit) ≡ table (λ i. signed negative (at (now (shares .entry)) i)) (length (now (shares .entry))) ++ drop (length (now (shares .entry))) (now (out .entry)) ⌝ }
 {
     let mut i = 0;
@@ -38,7 +42,7 @@ fn split_signed(
     shares: &mut [u64],
     out: &mut [i64],
 )
-    requires { ⌜ Within AMOUNT amount × (whole ≡ total (now ws)) × (0 < length (now ws)) × (length (now ws) ≤ PARTIES) × Bounded WEIGHT (now ws) ⌝ }
+    requires { ⌜ Within LARGEST-AMOUNT amount × (whole ≡ total (now ws)) × (0 < length (now ws)) × (length (now ws) ≤ PARTIES) × Bounded LARGEST-WEIGHT (now ws) ⌝ }
     requires { ⌜ (length (now ws) ≤ length (now keys)) × (length (now shares) ≡ length (now ws)) × (length (now ws) ≤ length (now out)) ⌝ }
     ensures { λ _. ⌜ now (out .exit) ≡ prorateZ amount (now (ws .entry)) (now (keys .entry)) ++ drop (length (now (ws .entry))) (now (out .entry)) ⌝ }
 {
@@ -48,7 +52,7 @@ fn split_signed(
 
 // The signed amount prorated over the weights, whose sum `whole` is handed in. Numbers of `out` past the parties stay.
 pub fn prorate_signed(amount: i64, ws: &[u64], whole: u64, keys: &[u64], out: &mut [i64])
-    requires { ⌜ Within AMOUNT amount × (whole ≡ total (now ws)) × (0 < length (now ws)) × (length (now ws) ≤ PARTIES) × Bounded WEIGHT (now ws) ⌝ }
+    requires { ⌜ Within LARGEST-AMOUNT amount × (whole ≡ total (now ws)) × (0 < length (now ws)) × (length (now ws) ≤ PARTIES) × Bounded LARGEST-WEIGHT (now ws) ⌝ }
     requires { ⌜ (length (now ws) ≤ length (now keys)) × (length (now ws) ≤ length (now out)) ⌝ }
     ensures { λ _. ⌜ now (out .exit) ≡ prorateZ amount (now (ws .entry)) (now (keys .entry)) ++ drop (length (now (ws .entry))) (now (out .entry)) ⌝ }
 {
@@ -80,7 +84,7 @@ fn none_above(xs: &[u64], limit: u64) -> bool
 fn in_range(amount: i64, ws: &[u64], keys: &[u64]) -> bool
     ensures { λ r. ⌜ r ≡ in-range amount (now (ws .entry)) (now (keys .entry)) ⌝ }
 {
-    if !numbers::size_at_most(amount, AMOUNT) {
+    if !numbers::size_at_most(amount, LARGEST_AMOUNT) {
         return false;
     }
     if ws.len() == 0 {
@@ -92,7 +96,7 @@ fn in_range(amount: i64, ws: &[u64], keys: &[u64]) -> bool
     if keys.len() < ws.len() {
         return false;
     }
-    none_above(ws, WEIGHT)
+    none_above(ws, LARGEST_WEIGHT)
 }
 
 // What `seatpomelo_split` answers: done, or document 01's number of a refusal.

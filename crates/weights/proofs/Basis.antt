@@ -11,7 +11,7 @@ use borrow.Author.Tests.{eq-eqb, ne-eqb}
 use Rattle.numbers.specs.Sums.{total, Bounded}
 use Rattle.numbers.specs.Lists.{zip}
 use Rattle.numbers.proofs.Sums.{lt-or-ge, length-table, at-table}
-use Rattle.proration.specs.Proration.{PARTIES, WEIGHT}
+use Rattle.proration.specs.Proration.{PARTIES, LARGEST-WEIGHT}
 use Rattle.point_day.specs.Limits.{USERS, KINDS, LIMIT}
 use Rattle.point_day.specs.Calls.{by-basis}
 use Rattle.weights.specs.Metered.{Metered, metered, weights, by-all-kinds, basis-weights}
@@ -54,12 +54,12 @@ module _ (cs ls : List ℤ) (h : Metered cs ls) where
 
   -- the weights of n users, as a split asks for them
   pub weights-right : (all : Bool) (n : ℕ) → n ≤ USERS → {ws : List ℕ} → ws ≡ weights all cs ls n
-      → (length ws ≡ n) × (length ws ≤ PARTIES) × Bounded WEIGHT ws
+      → (length ws ≡ n) × (length ws ≤ PARTIES) × Bounded LARGEST-WEIGHT ws
   weights-right all n l {ws} e =
       let long : length ws ≡ n = ap length e ∙ length-table _ n in
       (long, omega arith, λ i. rw e (small i))
     where
-      small : Bounded WEIGHT (weights all cs ls n)
+      small : Bounded LARGEST-WEIGHT (weights all cs ls n)
       small i =
           ⊎-elim
           (λ m. rw (at-table (λ s. total (by-basis all (metered cs ls s))) n i m) (omega (arith, user-small all i)))

@@ -15,7 +15,7 @@ use Rattle.numbers.specs.Sums.{pick, atZ, Bounded}
 use Rattle.numbers.specs.Lists.{zip}
 use Rattle.numbers.specs.Amounts.{Between}
 use Rattle.numbers.proofs.Amounts.{pos-is}
-use Rattle.proration.specs.Proration.{WEIGHT}
+use Rattle.proration.specs.Proration.{LARGEST-WEIGHT}
 use Rattle.point_day.specs.Limits.{USERS, CELLS, KINDS, LIMIT}
 use Rattle.point_day.specs.Calls.{by-basis}
 use Rattle.point_day.specs.Struct.{kinds-of}
@@ -44,7 +44,7 @@ module _ {x y : ℤ} (h : Between (pos 0) (pos LIMIT) x) (k : Between (pos 0) (p
   pub cell-is : natAbs (toZ w64 (ofZ w64 (toZ w64 (ofZ w64 x) +ℤ toZ w64 (ofZ w64 y)))) ≡ natAbs x + natAbs y
   cell-is = ap natAbs (added-is (natAbs x) (natAbs y) (omega (arith, low-size LIMIT x h)) (omega (arith, low-size LIMIT y k)) x-is y-is)
 
-  pub cell-small : natAbs x + natAbs y ≤ WEIGHT
+  pub cell-small : natAbs x + natAbs y ≤ LARGEST-WEIGHT
   cell-small = omega (arith, low-size LIMIT x h, low-size LIMIT y k)
 
 -- ---- five of them

@@ -4,7 +4,7 @@ ghost use Prim.Native.Nat.{_+_, _≤_, _<_};
 ghost use lib.IntN.{natAbs};
 ghost use lib.ListN.{length};
 ghost use Rattle.numbers.specs.Sums.{pick, atZ, Bounded, total};
-ghost use Rattle.proration.specs.Proration.{WEIGHT};
+ghost use Rattle.proration.specs.Proration.{LARGEST-WEIGHT};
 ghost use Rattle.point_day.specs.Limits.{USERS, CELLS};
 ghost use Rattle.point_day.specs.Calls.{by-basis};
 ghost use Rattle.weights.specs.Metered.{Metered, metered, weights, by-all-kinds, basis-weights};
@@ -15,7 +15,7 @@ use point_day::KINDS;
 fn cell<'a>(consumption: &'a [i64; CELLS], losses: &'a [i64; CELLS], i: usize) -> u64
     requires { ⌜ (i < CELLS) × Metered (now consumption) (now losses) ⌝ }
     ensures { λ r. ⌜ r ≡ natAbs (atZ (now (consumption .entry)) i) + natAbs (atZ (now (losses .entry)) i) ⌝ }
-    ensures { λ r. ⌜ r ≤ WEIGHT ⌝ }
+    ensures { λ r. ⌜ r ≤ LARGEST-WEIGHT ⌝ }
 {
     (consumption[i] + losses[i]) as u64
 }
@@ -29,7 +29,7 @@ fn cell_if<'a>(
 ) -> u64
     requires { ⌜ (i < CELLS) × Metered (now consumption) (now losses) ⌝ }
     ensures { λ r. ⌜ r ≡ pick counts (natAbs (atZ (now (consumption .entry)) i) + natAbs (atZ (now (losses .entry)) i)) 0 ⌝ }
-    ensures { λ r. ⌜ r ≤ WEIGHT ⌝ }
+    ensures { λ r. ⌜ r ≤ LARGEST-WEIGHT ⌝ }
 {
     if counts {
         cell(consumption, losses, i)
@@ -47,7 +47,7 @@ pub fn kind_weights<'a>(
 ) -> [u64; KINDS]
     requires { ⌜ (slot < USERS) × Metered (now consumption) (now losses) ⌝ }
     ensures { λ r. ⌜ r ≡ by-basis all (metered (now (consumption .entry)) (now (losses .entry)) slot) ⌝ }
-    ensures { λ r. ⌜ Bounded WEIGHT r ⌝ }
+    ensures { λ r. ⌜ Bounded LARGEST-WEIGHT r ⌝ }
 {
     let i = KINDS * slot;
     let b = cell(consumption, losses, i + 1);

@@ -5,14 +5,14 @@ use Prim.Native.Nat.{_*_, _-_, _≤_}
 use lib.ListN.{length}
 use Rattle.numbers.specs.Sums as S
 use Rattle.numbers.specs.Sums.{at}
-use Rattle.proration.specs.Proration.{WEIGHT}
+use Rattle.proration.specs.Proration.{LARGEST-WEIGHT}
 use borrow.Author.Needs.{needs}
 use native.Mathlib.Omega.{arith}
 use Rattle.proration.proofs.weight_total.Statement.{statement}
 use Rattle.proration.proofs.weight_total.Tie as tie
 
 abbrev Inv-loop : tie.InvT-loop
-Inv-loop ws sum₀ party₀ sum party = (sum ≡ S.sum (at ws) party) × (party ≤ length ws) × (sum ≤ party * WEIGHT)
+Inv-loop ws sum₀ party₀ sum party = (sum ≡ S.sum (at ws) party) × (party ≤ length ws) × (sum ≤ party * LARGEST-WEIGHT)
 
 abbrev μ-loop : tie.MeasureT-loop
 μ-loop ws sum₀ party₀ sum party = length ws - party

@@ -4,10 +4,10 @@ use Rattle.prorations.proofs.run.Statement.{statement}
 use Rattle.prorations.proofs.run.Tie as tie
 
 abbrev Inv-loop : tie.InvT-loop
-Inv-loop s next₀ turns₀ t4 next turns = Unit {0}
+Inv-loop s next₀ turns₀ next turns = Unit {0}
 
 abbrev μ-loop : tie.MeasureT-loop
-μ-loop s next₀ turns₀ t4 next turns = turns
+μ-loop s next₀ turns₀ next turns = turns
 
 loop-holds : tie.Need-loop-holds Inv-loop μ-loop
 loop-holds c = search needs
@@ -18,11 +18,8 @@ returns c = search needs
 run-case-requires : tie.Need-run-case-requires Inv-loop μ-loop
 run-case-requires c κs = search needs
 
-slice-aggregate-write-all : tie.Need-slice-aggregate-write-all Inv-loop μ-loop
-slice-aggregate-write-all c = search needs
-
-write-all-requires : tie.Need-write-all-requires Inv-loop μ-loop
-write-all-requires c κs = search needs
+malformed-requires : tie.Need-malformed-requires Inv-loop μ-loop
+malformed-requires c κs = search needs
 
 returns-2 : tie.Need-returns-2 Inv-loop μ-loop
 returns-2 c = search needs
@@ -48,8 +45,7 @@ run-spec =
     loop-holds
     returns
     run-case-requires
-    slice-aggregate-write-all
-    write-all-requires
+    malformed-requires
     returns-2
     sub-turns
     loop-less

@@ -1,7 +1,7 @@
 -- `replay::day_file`: the bytes of the file lie inside the input. Assumes nothing.
 use native.Mathlib.Omega.{arith}
 use borrow.Author.Needs.{needs}
-use Rattle.cursor.proofs.Taking.{passed-inside}
+use Rattle.console.proofs.cursor.Taking.{passed-inside}
 use Rattle.replay.proofs.day_file.Statement.{statement}
 use Rattle.replay.proofs.day_file.Tie as tie
 

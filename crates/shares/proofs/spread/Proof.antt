@@ -4,7 +4,7 @@ use mathlib.Core.List.{[], _∷_, _++_, append-nil}
 use lib.ListN.{length, drop-of-length-le}
 use Rattle.numbers.specs.Sums.{total}
 use Rattle.numbers.proofs.Amounts.{back}
-use Rattle.proration.specs.Proration.{WEIGHT, prorateZ}
+use Rattle.proration.specs.Proration.{LARGEST-WEIGHT, prorateZ}
 use Rattle.point_day.specs.Calls.{kinds}
 use Rattle.weights.proofs.Weighing.{bounded-five}
 use Rattle.shares.proofs.Sharing.{none-weigh, some-weigh}
@@ -28,7 +28,7 @@ slice-aggregate-prorate-signed-2 c = search needs
 prorate-signed-requires : tie.Need-prorate-signed-requires
 prorate-signed-requires c κs =
     let s = c .before .before .before .before .before .before in
-    ((rw (back (s .pre .0) (omega arith)) (s .pre .0), unfold total in refl, omega arith, omega arith, bounded-five WEIGHT _ _ _ _ _ (omega arith) (omega arith) (omega arith) (omega arith) (omega arith)), (omega arith, omega (arith, s .pre .2)))
+    ((rw (back (s .pre .0) (omega arith)) (s .pre .0), unfold total in refl, omega arith, omega arith, bounded-five LARGEST-WEIGHT _ _ _ _ _ (omega arith) (omega arith) (omega arith) (omega arith) (omega arith)), (omega arith, omega (arith, s .pre .2)))
 
 slice-aggregate-prorate-signed-3 : tie.Need-slice-aggregate-prorate-signed-3
 slice-aggregate-prorate-signed-3 c = search needs

@@ -1,5 +1,5 @@
 -- `weights::kind_weights` meets its contract: five cells are the weights of a user's kinds. Assumes nothing.
-use Rattle.proration.specs.Proration.{WEIGHT}
+use Rattle.proration.specs.Proration.{LARGEST-WEIGHT}
 use Rattle.weights.proofs.Weighing.{weights-are, bounded-five}
 use borrow.Author.Needs.{needs}
 use Rattle.weights.proofs.kind_weights.Statement.{statement}
@@ -43,7 +43,7 @@ returns c =
     let e = c .before .before .cell3 in
     let f = c .before .cell4 in (
       weights-are (s .args .consumption .now) (s .args .losses .now) (s .args .slot) (s .pre .1 .consumption .long) (s .pre .1 .losses .long) (s .pre .0) (s .args .all) (c .cell-if .ensures .0) (b .ensures .0) (d .ensures .0) (e .ensures .0) (f .ensures .0),
-      bounded-five WEIGHT _ _ _ _ _ (c .cell-if .ensures .1) (b .ensures .1) (d .ensures .1) (e .ensures .1) (f .ensures .1),
+      bounded-five LARGEST-WEIGHT _ _ _ _ _ (c .cell-if .ensures .1) (b .ensures .1) (d .ensures .1) (e .ensures .1) (f .ensures .1),
     )
 
 pub kind-weights-spec : {M : Type 1} → statement M
