@@ -3,8 +3,8 @@ mod input;
 
 use cursor::Cursor;
 use cursor::MOST_LENT;
-use day_types::DayType;
-use day_types::DayTypeAnswer;
+use calendar::DayType;
+use calendar::DayTypeAnswer;
 use degree_days::DegreeDays;
 use libc::STDIN_FILENO;
 use reading::SpreadAnswer;
@@ -337,7 +337,7 @@ fn day_type(s: &[u8], from: Cursor) -> Cursor {
     let n = holidays.count;
     let next = holidays.next;
     if next.ok {
-        print_day_type(day_types::day_type(day.value, &days[..n]));
+        print_day_type(calendar::day_type(day.value, &days[..n]));
     }
     next
 }

@@ -25,7 +25,7 @@ use Rattle.day_file.specs.Report.{allotted, in-order, report}
 use Rattle.day_file.specs.Text.{spaced, text}
 use Rattle.calendar.specs.Answers.{tested}
 use Rattle.calendar.specs.Days.{holidays-right, calendar-right}
-use Rattle.day_types.specs.DayTypes.{day-type, is-working}
+use Rattle.calendar.specs.DayTypes.{day-type, is-working}
 use Rattle.months.specs.Months.{month-days, length-of, month-from, month-of}
 use Rattle.working_days.specs.WorkingDays.{working-mask, N-lab, N-res}
 use Rattle.degree_days.specs.Degrees.{temperatures-right, degree-days, degree-days-call}

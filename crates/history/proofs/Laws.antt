@@ -8,7 +8,7 @@ use native.Mathlib.Omega.{arith}
 use lib.ListN.{length, getD, take}
 use Rattle.numbers.proofs.Sums.{cases}
 use Rattle.numbers.proofs.Lists.{All, all-map}
-use Rattle.day_types.specs.DayTypes.{day-type, same-type}
+use Rattle.calendar.specs.DayTypes.{day-type, same-type}
 use Rattle.history.specs.History.{MATCHES, Dated, Metered, metered, real-readings, matching, last-three, mean-value, is-empty, is-new, real-value}
 use Rattle.supply.specs.declared.Amount.the-variants.{Missing, Known}
 use Rattle.history.specs.declared.Reading.{Reading}

@@ -7,8 +7,8 @@ use lib.ListN.{length, getD, take}
 use Rattle.numbers.specs.Nearest.{nearest}
 use Rattle.numbers.specs.Sums.{pick, total}
 use Rattle.numbers.specs.Lists.{both, every}
-use Rattle.day_types.specs.DayTypes.{day-type, same-type}
-use Rattle.day_types.specs.declared.DayType.{DayType}
+use Rattle.calendar.specs.DayTypes.{day-type, same-type}
+use Rattle.calendar.specs.declared.DayType.{DayType}
 use Rattle.supply.specs.Amounts.{in-limit}
 use Rattle.history.specs.declared.Reading.{Reading}
 use Rattle.history.specs.declared.Reading.the-variants.{Nothing, Real, Estimated, Own}

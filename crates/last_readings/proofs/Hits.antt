@@ -5,8 +5,8 @@ use mathlib.Core.List.{List}
 use Prim.Native.Nat.{ℕ, _+_}
 use native.Mathlib.Omega.{arith}
 use Rattle.numbers.specs.Sums.{total}
-use Rattle.day_types.specs.DayTypes.{day-type, same-type}
-use Rattle.day_types.specs.declared.DayType.{DayType}
+use Rattle.calendar.specs.DayTypes.{day-type, same-type}
+use Rattle.calendar.specs.declared.DayType.{DayType}
 use Rattle.history.specs.History.{matching, sum-of, real-value}
 use Rattle.history.proofs.Laws.{missing-known}
 use Rattle.last_readings.specs.Search.{hit-of}

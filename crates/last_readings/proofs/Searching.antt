@@ -15,8 +15,8 @@ use Rattle.numbers.specs.Sums.{pick, total}
 use Rattle.numbers.specs.Lists.{either}
 use Rattle.numbers.proofs.Sums.{cases, lt-or-ge}
 use Rattle.numbers.proofs.Lists.{true≢false}
-use Rattle.day_types.specs.DayTypes.{day-type, same-type}
-use Rattle.day_types.specs.declared.DayType.{DayType}
+use Rattle.calendar.specs.DayTypes.{day-type, same-type}
+use Rattle.calendar.specs.declared.DayType.{DayType}
 use Rattle.supply.specs.Amounts.{LIMIT}
 use Rattle.history.specs.History.{MATCHES, Dated, Metered, reading-right, dated, metered, real-readings, matching, last-three, sum-of, looked-at, is-empty, is-new}
 use Rattle.last_readings.specs.Search.{found-in, hit-of}

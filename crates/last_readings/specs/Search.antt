@@ -3,7 +3,7 @@ use mathlib.Core.Bool.{not}
 use mathlib.Core.List.{List}
 use Prim.Native.Nat.{ℕ}
 use lib.ListN.{length}
-use Rattle.day_types.specs.declared.DayType.{DayType}
+use Rattle.calendar.specs.declared.DayType.{DayType}
 use Rattle.history.specs.History.{Dated, metered, matching, last-three, sum-of, looked-at, is-empty, is-new}
 use Rattle.history.specs.declared.Reading.{Reading}
 use Rattle.last_readings.specs.declared.Found.{Found}

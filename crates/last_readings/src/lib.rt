@@ -6,7 +6,7 @@ ghost use lib.ListN.{take};
 ghost use Rattle.numbers.specs.Lists.{every, rising};
 ghost use Rattle.history.specs.History.{ENTRIES, entry-right, dated};
 ghost use Rattle.last_readings.specs.Search.{hit-of, found-in};
-use day_types::DayType;
+use calendar::DayType;
 use history::ENTRIES;
 use history::Entry;
 use history::Reading;
@@ -43,8 +43,8 @@ fn look_at(reading: Reading, day: u32, holidays: &[u32], wanted: DayType) -> Hit
             real: false,
         };
     };
-    let day_type = day_types::type_of_day(day, holidays);
-    if day_types::are_same(day_type, wanted) {
+    let day_type = calendar::type_of_day(day, holidays);
+    if calendar::are_same(day_type, wanted) {
         return Hit {
             value: v,
             matches: 1,
@@ -63,7 +63,7 @@ pub fn search(day: u32, holidays: &[u32], history: [Entry; ENTRIES], count: usiz
     requires { ⌜ (rising (now holidays) ≡ true) × (count ≤ ENTRIES) × (count ≤ day) × (every entry-right (take count history) ≡ true) ⌝ }
     ensures { λ r. ⌜ r ≡ found-in (now (holidays .entry)) day count (dated day (take count history)) ⌝ }
 {
-    let wanted = day_types::type_of_day(day, holidays);
+    let wanted = calendar::type_of_day(day, holidays);
     let mut sum: u64 = 0;
     let mut matches: u64 = 0;
     let mut real = false;

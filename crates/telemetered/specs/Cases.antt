@@ -6,7 +6,7 @@ use Rattle.numbers.specs.Sums.{total}
 use Rattle.numbers.specs.Lists.{every, has, rising}
 use Rattle.calendar.specs.Answers.{given, tested}
 use Rattle.calendar.specs.Days.{holidays-right, calendar-right}
-use Rattle.day_types.specs.DayTypes.{day-type}
+use Rattle.calendar.specs.DayTypes.{day-type}
 use Rattle.supply.specs.Amounts.{flows-right}
 use Rattle.history.specs.History.{history-right, dated, real-readings, matching, last-three, sum-of, mean-value, looked-at, is-new}
 use Rattle.telemetered.specs.Telemetered.{from-history, values-right, telemetered}

@@ -13,7 +13,7 @@ use Rattle.numbers.specs.Lists.{both, every, rising}
 use Rattle.numbers.proofs.Sums.{cases}
 use Rattle.numbers.proofs.Lists.{both-fst, both-snd}
 use Rattle.calendar.specs.Days.{LAST-DAY, is-gas-day, calendar-right}
-use Rattle.day_types.specs.DayTypes.{is-working}
+use Rattle.calendar.specs.DayTypes.{is-working}
 use Rattle.months.specs.Months.{month-of, last-year-days}
 use Rattle.working_days.specs.WorkingDays.{N-lab, N-res}
 use Rattle.calendar.proofs.Holidays.{calendar-day, calendar-rising}

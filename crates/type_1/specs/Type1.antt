@@ -9,7 +9,7 @@ use Rattle.numbers.specs.Sums.{pick}
 use Rattle.numbers.specs.Lists.{both, every, has}
 use Rattle.calendar.specs.Answers.{Answer, _when_, tested, OUT-OF-RANGE}
 use Rattle.calendar.specs.Days.{is-gas-day, calendar-right}
-use Rattle.day_types.specs.DayTypes.{is-working}
+use Rattle.calendar.specs.DayTypes.{is-working}
 use Rattle.months.specs.Months.{month-days, length-of, month-from, month-of, last-year-days}
 use Rattle.working_days.specs.WorkingDays.{N-lab, N-res}
 use Rattle.months.specs.declared.Month.{Month}

@@ -11,7 +11,7 @@ use lib.Count.{onesIn, ones, ones-step, ones-cat}
 use lib.Pow.{pow-mono, pow-lt, shr-lt}
 use Rattle.numbers.specs.Sums.{bit, sum}
 use Rattle.numbers.proofs.Sums.{sum-more, sum-one, sum-lt, bit-one, bit-small, bits-le}
-use Rattle.day_types.specs.DayTypes.{is-working}
+use Rattle.calendar.specs.DayTypes.{is-working}
 use Rattle.working_days.specs.WorkingDays.{MASK-BITS, working-mask, N-lab}
 use Rattle.months.specs.declared.Month.{Month}
 use Rattle.months.proofs.Months.{Holds}

@@ -8,7 +8,7 @@ use Rattle.numbers.specs.Sums.{bit, sum}
 use Rattle.numbers.specs.Lists.{has}
 use Rattle.calendar.specs.Answers.{Answer, refused, given, _when_, tested, OUT-OF-RANGE}
 use Rattle.calendar.specs.Days.{calendar-right}
-use Rattle.day_types.specs.DayTypes.{day-type, is-working}
+use Rattle.calendar.specs.DayTypes.{day-type, is-working}
 use Rattle.months.specs.Months.{month-days, length-of, month-from, month-of}
 use Rattle.months.specs.declared.Month.{Month}
 use Rattle.working_days.specs.declared.MonthAnswer.{MonthAnswer}

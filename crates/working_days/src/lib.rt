@@ -5,7 +5,7 @@ ghost use Prim.Native.Nat.{_≤_, _<_};
 ghost use Rattle.numbers.specs.Sums.{bit};
 ghost use Rattle.numbers.specs.Lists.{rising};
 ghost use Rattle.calendar.specs.Days.{LAST-DAY};
-ghost use Rattle.day_types.specs.DayTypes.{is-working};
+ghost use Rattle.calendar.specs.DayTypes.{is-working};
 ghost use Rattle.working_days.specs.WorkingDays.{MASK-BITS, working-mask, N-lab, month-call, month-said};
 use calendar::OUT_OF_RANGE;
 use months::Month;
@@ -25,7 +25,7 @@ fn working_bit(day: u32, holidays: &[u32]) -> u32
     requires { ⌜ rising (now holidays) ≡ true ⌝ }
     ensures { λ r. ⌜ r ≡ bit (is-working (now (holidays .entry)) day) ⌝ }
 {
-    if day_types::is_working(day_types::type_of_day(day, holidays)) {
+    if calendar::is_working(calendar::type_of_day(day, holidays)) {
         1
     } else {
         0

@@ -1,7 +1,7 @@
 -- `last_readings::look_at` meets its contract. An entry that is not real, one that matches, and one on a day of another type. Assumes nothing.
 use mathlib.Core.Path.{sym, ap, _∙_}
 use borrow.Author.Needs.{needs}
-use Rattle.day_types.specs.DayTypes.{same-type}
+use Rattle.calendar.specs.DayTypes.{same-type}
 use Rattle.last_readings.proofs.Hits.{hit-none, hit-match, hit-other}
 use Rattle.last_readings.proofs.look_at.Statement.{statement}
 use Rattle.last_readings.proofs.look_at.Tie as tie

@@ -14,7 +14,7 @@ use Rattle.last_readings.specs.Search.{hit-of}
 use Rattle.history.specs.History.{ENTRIES, entry-right, MATCHES}
 use Rattle.history.specs.declared.Reading.the-variants.{Nothing}
 use Rattle.history.specs.declared.Entry.{Entry}
-use Rattle.day_types.specs.DayTypes.{day-type}
+use Rattle.calendar.specs.DayTypes.{day-type}
 use Rattle.last_readings.proofs.Searching.{Going, going-start, going-real, going-idle, next-small, next-few, third, at-end}
 use Rattle.last_readings.proofs.search.Statement.{statement}
 use Rattle.last_readings.proofs.search.Tie as tie

@@ -9,7 +9,7 @@ use Rattle.month_consumption.specs.declared.Basis.{Basis}
 use Rattle.supply.specs.Amounts.{THOUSAND}
 use Rattle.numbers.specs.Sums.{pick}
 use Rattle.calendar.specs.Answers.{tested}
-use Rattle.day_types.specs.DayTypes.{is-working, is-working-type}
+use Rattle.calendar.specs.DayTypes.{is-working, is-working-type}
 use Rattle.months.specs.Months.{month-of}
 use Rattle.working_days.specs.WorkingDays.{N-lab, N-res}
 use Rattle.months.proofs.Months.{Holds, month-holds}

@@ -5,7 +5,7 @@ use Prim.Native.Nat.{ℕ, _+_, _-_, _≤_}
 use native.Mathlib.Omega.{arith}
 use borrow.Author.Needs.{needs}
 use Rattle.numbers.proofs.Sums.{sum-none}
-use Rattle.day_types.specs.DayTypes.{is-working}
+use Rattle.calendar.specs.DayTypes.{is-working}
 use Rattle.working_days.specs.WorkingDays.{working-mask}
 use Rattle.working_days.proofs.Masks.{mask-more, more-fits, mask as mask-of}
 use Rattle.working_days.proofs.mask_of_month.Statement.{statement}

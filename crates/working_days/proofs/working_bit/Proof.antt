@@ -2,7 +2,7 @@
 use mathlib.Core.Path.{sym, ap, _∙_}
 use borrow.Author.Needs.{needs}
 use Rattle.numbers.specs.Sums.{bit}
-use Rattle.day_types.specs.DayTypes.{is-working, is-working-type}
+use Rattle.calendar.specs.DayTypes.{is-working, is-working-type}
 use Rattle.working_days.proofs.working_bit.Statement.{statement}
 use Rattle.working_days.proofs.working_bit.Tie as tie
 

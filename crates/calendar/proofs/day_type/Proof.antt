@@ -2,11 +2,11 @@
 use mathlib.Core.Path.{sym, ap, _∙_}
 use borrow.Author.Tests.{not-true, not-false}
 use borrow.Author.Needs.{needs}
 use Rattle.calendar.specs.Answers.{given, tested}
-use Rattle.day_types.specs.DayTypes.{type-call}
+use Rattle.calendar.specs.DayTypes.{type-call}
 use Rattle.calendar.proofs.Holidays.{calendar-rising}
-use Rattle.day_types.proofs.day_type.Statement.{statement}
-use Rattle.day_types.proofs.day_type.Tie as tie
+use Rattle.calendar.proofs.day_type.Statement.{statement}
+use Rattle.calendar.proofs.day_type.Tie as tie
 
 is-calendar-requires : tie.Need-is-calendar-requires
 is-calendar-requires c κs = search needs

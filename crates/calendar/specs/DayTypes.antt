@@ -6,12 +6,12 @@ use Prim.Native.Nat.{ℕ, _%_}
 use lib.Dec.{eqb}
 use Rattle.numbers.specs.Sums.{pick}
 use Rattle.numbers.specs.Lists.{either, has}
 use Rattle.calendar.specs.Answers.{Answer, refused, given, _when_, tested, OUT-OF-RANGE}
 use Rattle.calendar.specs.Days.{calendar-right}
-use Rattle.day_types.specs.declared.DayType.{DayType}
-use Rattle.day_types.specs.declared.DayType.the-variants.{Working, Saturday, SundayOrHoliday}
-use Rattle.day_types.specs.declared.DayTypeAnswer.{DayTypeAnswer}
-use Rattle.day_types.specs.declared.DayTypeAnswer.the-variants.{Refused, Is}
+use Rattle.calendar.specs.declared.DayType.{DayType}
+use Rattle.calendar.specs.declared.DayType.the-variants.{Working, Saturday, SundayOrHoliday}
+use Rattle.calendar.specs.declared.DayTypeAnswer.{DayTypeAnswer}
+use Rattle.calendar.specs.declared.DayTypeAnswer.the-variants.{Refused, Is}
 
 -- the days of the week: day 0 is a Friday
 abbrev pub WEEK : ℕ

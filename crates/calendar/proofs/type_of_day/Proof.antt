@@ -5,9 +5,9 @@ use borrow.Author.Tests.{eq-eqb, ne-eqb}
 use borrow.Author.Needs.{needs}
 use Rattle.numbers.specs.Lists.{has}
 use Rattle.numbers.proofs.Lists.{either-end}
-use Rattle.day_types.specs.DayTypes.{WEEK, day-type}
-use Rattle.day_types.proofs.type_of_day.Statement.{statement}
-use Rattle.day_types.proofs.type_of_day.Tie as tie
+use Rattle.calendar.specs.DayTypes.{WEEK, day-type}
+use Rattle.calendar.proofs.type_of_day.Statement.{statement}
+use Rattle.calendar.proofs.type_of_day.Tie as tie
 
 returns : tie.Need-returns
 unfolding day-type
