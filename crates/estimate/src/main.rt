@@ -15,7 +15,7 @@ use supply::Toll;
 use telemetered::OwnValue;
 use telemetered::TelemeteredAnswer;
 use type_2::ProfileAnswer;
-use working_days::MonthAnswer;
+use months::MonthAnswer;
 use zones::ProvinceAnswer;
 use zones::ZoneAnswer;
 
@@ -368,7 +368,7 @@ fn month(s: &[u8], from: Cursor) -> Cursor {
     let n = holidays.count;
     let next = holidays.next;
     if next.ok {
-        print_month(working_days::month_figures(day.value, &days[..n]));
+        print_month(months::month_figures(day.value, &days[..n]));
     }
     next
 }

@@ -27,7 +27,7 @@ use Rattle.calendar.specs.Answers.{tested}
 use Rattle.calendar.specs.Days.{holidays-right, calendar-right}
 use Rattle.calendar.specs.DayTypes.{day-type, is-working}
 use Rattle.months.specs.Months.{month-days, length-of, month-from, month-of}
-use Rattle.working_days.specs.WorkingDays.{working-mask, N-lab, N-res}
+use Rattle.months.specs.WorkingDays.{working-mask, N-lab, N-res}
 use Rattle.degree_days.specs.Degrees.{temperatures-right, degree-days, degree-days-call}
 use Rattle.zones.specs.Zones.{zone-of, zone-call}
 use Rattle.supply.specs.Amounts.{flows-right, limited}

@@ -19,7 +19,7 @@ use Rattle.day_file.specs.Report.{report}
 use Rattle.day_file.specs.Text.{text, LINE-FEED}
 use Rattle.calendar.specs.Answers.{given}
 use Rattle.months.specs.Months.{month-of}
-use Rattle.working_days.specs.WorkingDays.{N-lab}
+use Rattle.months.specs.WorkingDays.{N-lab}
 use Rattle.degree_days.specs.Degrees.{degree-days-call}
 use Rattle.zones.specs.Zones.{zone-call}
 use Rattle.supply.specs.declared.Amount.{Amount}

@@ -11,7 +11,7 @@ use Rattle.calendar.specs.Answers.{Answer, _when_, tested, OUT-OF-RANGE}
 use Rattle.calendar.specs.Days.{is-gas-day, calendar-right}
 use Rattle.calendar.specs.DayTypes.{is-working}
 use Rattle.months.specs.Months.{month-days, length-of, month-from, month-of, last-year-days}
-use Rattle.working_days.specs.WorkingDays.{N-lab, N-res}
+use Rattle.months.specs.WorkingDays.{N-lab, N-res}
 use Rattle.months.specs.declared.Month.{Month}
 use Rattle.month_consumption.specs.MonthConsumption.{month-34, month-other}
 use Rattle.day_share.specs.DayShare.{day-of, part-of}

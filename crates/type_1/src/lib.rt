@@ -153,7 +153,7 @@ pub fn other_toll(
         month.days,
     );
     let working = calendar::is_working(calendar::type_of_day(day, holidays));
-    let lab = working_days::working_days(month, holidays);
+    let lab = months::working_days(month, holidays);
     let days = day_share::days_for(working, month.days, lab);
     day_share::day_of_month(basis, day_share::part_for(working, c_f), THOUSAND * days)
 }

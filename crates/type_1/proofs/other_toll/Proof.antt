@@ -11,9 +11,9 @@ use Rattle.numbers.specs.Sums.{pick}
 use Rattle.calendar.specs.Answers.{tested}
 use Rattle.calendar.specs.DayTypes.{is-working, is-working-type}
 use Rattle.months.specs.Months.{month-of}
-use Rattle.working_days.specs.WorkingDays.{N-lab, N-res}
+use Rattle.months.specs.WorkingDays.{N-lab, N-res}
 use Rattle.months.proofs.Months.{Holds, month-holds}
-use Rattle.working_days.proofs.Masks.{working-all}
+use Rattle.months.proofs.Masks.{working-all}
 use Rattle.month_consumption.specs.MonthConsumption.{month-other, SmallBasis}
 use Rattle.day_share.specs.DayShare.{day-of, part-of}
 use Rattle.type_1.specs.Type1.{sharing, other-toll}

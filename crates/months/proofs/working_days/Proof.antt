@@ -2,9 +2,9 @@
 use mathlib.Core.Path.{ap, _∙_}
 use lib.Count.{ones}
 use borrow.Author.Needs.{needs}
-use Rattle.working_days.proofs.Masks.{counted}
-use Rattle.working_days.proofs.working_days.Statement.{statement}
-use Rattle.working_days.proofs.working_days.Tie as tie
+use Rattle.months.proofs.Masks.{counted}
+use Rattle.months.proofs.working_days.Statement.{statement}
+use Rattle.months.proofs.working_days.Tie as tie
 
 mask-of-month-requires : tie.Need-mask-of-month-requires
 mask-of-month-requires c κs = search needs

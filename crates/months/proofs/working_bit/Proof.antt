@@ -3,8 +3,8 @@ use mathlib.Core.Path.{sym, ap, _∙_}
 use borrow.Author.Needs.{needs}
 use Rattle.numbers.specs.Sums.{bit}
 use Rattle.calendar.specs.DayTypes.{is-working, is-working-type}
-use Rattle.working_days.proofs.working_bit.Statement.{statement}
-use Rattle.working_days.proofs.working_bit.Tie as tie
+use Rattle.months.proofs.working_bit.Statement.{statement}
+use Rattle.months.proofs.working_bit.Tie as tie
 
 type-of-day-requires : tie.Need-type-of-day-requires
 type-of-day-requires c κs = search needs

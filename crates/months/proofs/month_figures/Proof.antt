@@ -5,14 +5,14 @@ use native.Mathlib.Omega.{arith}
 use borrow.Author.Tests.{not-true, not-false}
 use borrow.Author.Needs.{needs}
 use Rattle.calendar.specs.Days.{calendar-right}
-use Rattle.working_days.specs.WorkingDays.{month-call}
+use Rattle.months.specs.WorkingDays.{month-call}
 use Rattle.months.specs.Months.{month-of}
 use Rattle.calendar.specs.Answers.{tested}
 use Rattle.months.proofs.Months.{month-holds}
-use Rattle.working_days.proofs.Masks.{counted}
+use Rattle.months.proofs.Masks.{counted}
 use Rattle.calendar.proofs.Holidays.{calendar-day, calendar-rising}
-use Rattle.working_days.proofs.month_figures.Statement.{statement}
-use Rattle.working_days.proofs.month_figures.Tie as tie
+use Rattle.months.proofs.month_figures.Statement.{statement}
+use Rattle.months.proofs.month_figures.Tie as tie
 
 is-calendar-requires : tie.Need-is-calendar-requires
 is-calendar-requires c κs = search needs

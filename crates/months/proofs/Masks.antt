@@ -12,9 +12,9 @@ use lib.Pow.{pow-mono, pow-lt, shr-lt}
 use Rattle.numbers.specs.Sums.{bit, sum}
 use Rattle.numbers.proofs.Sums.{sum-more, sum-one, sum-lt, bit-one, bit-small, bits-le}
 use Rattle.calendar.specs.DayTypes.{is-working}
-use Rattle.working_days.specs.WorkingDays.{MASK-BITS, working-mask, N-lab}
+use Rattle.months.specs.WorkingDays.{MASK-BITS, working-mask, N-lab}
 use Rattle.months.specs.declared.Month.{Month}
 use Rattle.months.proofs.Months.{Holds}
 
 module _ (w : ℕ → Bool) where
   -- bit i of the mask is whether w holds of i

@@ -6,10 +6,10 @@ use native.Mathlib.Omega.{arith}
 use borrow.Author.Needs.{needs}
 use Rattle.numbers.proofs.Sums.{sum-none}
 use Rattle.calendar.specs.DayTypes.{is-working}
-use Rattle.working_days.specs.WorkingDays.{working-mask}
-use Rattle.working_days.proofs.Masks.{mask-more, more-fits, mask as mask-of}
-use Rattle.working_days.proofs.mask_of_month.Statement.{statement}
-use Rattle.working_days.proofs.mask_of_month.Tie as tie
+use Rattle.months.specs.WorkingDays.{working-mask}
+use Rattle.months.proofs.Masks.{mask-more, more-fits, mask as mask-of}
+use Rattle.months.proofs.mask_of_month.Statement.{statement}
+use Rattle.months.proofs.mask_of_month.Tie as tie
 
 abbrev Inv-loop : tie.InvT-loop
 Inv-loop holidays first days mask₀ i₀ mask i = (i ≤ days) × (mask ≡ mask-of (λ k. is-working holidays (first + k)) i)

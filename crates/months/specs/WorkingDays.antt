@@ -9,10 +9,10 @@ use Rattle.numbers.specs.Lists.{has}
 use Rattle.calendar.specs.Answers.{Answer, refused, given, _when_, tested, OUT-OF-RANGE}
 use Rattle.calendar.specs.Days.{calendar-right}
 use Rattle.calendar.specs.DayTypes.{day-type, is-working}
 use Rattle.months.specs.Months.{month-days, length-of, month-from, month-of}
 use Rattle.months.specs.declared.Month.{Month}
-use Rattle.working_days.specs.declared.MonthAnswer.{MonthAnswer}
-use Rattle.working_days.specs.declared.MonthAnswer.the-variants.{Refused, Of}
+use Rattle.months.specs.declared.MonthAnswer.{MonthAnswer}
+use Rattle.months.specs.declared.MonthAnswer.the-variants.{Refused, Of}
 
 -- "The working days of a month are a mask, bit 0 for the first"
 unfoldable pub working-mask : List ℕ → Month → ℕ
