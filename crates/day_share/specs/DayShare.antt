@@ -5,7 +5,7 @@ use Prim.Native.Nat.{ℕ, _-_, _*_}
 use Rattle.numbers.specs.Nearest.{nearest}
 use Rattle.numbers.specs.Sums.{pick}
 use Rattle.calendar.specs.Answers.{Answer, refused, given, tested, NO-BASIS}
-use Rattle.coefficients.specs.Temperature.{_over_, times, divided, rounded, MOST-DAYS}
+use Rattle.temperature.specs.Temperature.{_over_, times, divided, rounded, MOST-DAYS}
 use Rattle.supply.specs.Amounts.{THOUSAND, limited}
 use Rattle.month_consumption.specs.declared.Basis.{Basis}
 use Rattle.month_consumption.specs.declared.Basis.the-variants.{NoBasis, OfMonth}

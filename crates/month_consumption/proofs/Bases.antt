@@ -5,8 +5,8 @@ use Prim.Native.Nat.{ℕ, _*_, _≤_}
 use native.Mathlib.Omega.{arith}
 use native.Mathlib.Nat.{mul-le-mul}
 use borrow.Author.Tests.{leb-true}
-use Rattle.coefficients.specs.Temperature.{MOST-DAYS, Corrects}
-use Rattle.coefficients.specs.declared.Fraction.{Fraction}
+use Rattle.temperature.specs.Temperature.{MOST-DAYS, Corrects}
+use Rattle.temperature.specs.declared.Fraction.{Fraction}
 use Rattle.supply.specs.Amounts.{LIMIT, THOUSAND, MOST-C-c, amount-right}
 use Rattle.month_consumption.specs.MonthConsumption.{month-34, month-other, SmallBasis}
 use Rattle.supply.specs.declared.Amount.{Amount}

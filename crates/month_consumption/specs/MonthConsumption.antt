@@ -1,7 +1,7 @@
 -- Document 01, "Type 1": C_m, a month's consumption. Assumes nothing.
 use Prim.Native.Nat.{ℕ, _*_, _≤_}
-use Rattle.coefficients.specs.Temperature.{_over_, times}
-use Rattle.coefficients.specs.declared.Fraction.{Fraction}
+use Rattle.temperature.specs.Temperature.{_over_, times}
+use Rattle.temperature.specs.declared.Fraction.{Fraction}
 use Rattle.supply.specs.Amounts.{THOUSAND, TEN-THOUSAND}
 use Rattle.supply.specs.declared.Amount.{Amount}
 use Rattle.supply.specs.declared.Amount.the-variants.{Missing, Known}

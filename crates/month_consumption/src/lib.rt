@@ -2,10 +2,10 @@
 ghost use mathlib.Core.Path.{_≡_};
 ghost use mathlib.Core.Bool.{true};
 ghost use Prim.Native.Nat.{_≤_};
-ghost use Rattle.coefficients.specs.Temperature.{MOST-DAYS, Corrects};
+ghost use Rattle.temperature.specs.Temperature.{MOST-DAYS, Corrects};
 ghost use Rattle.supply.specs.Amounts.{THOUSAND, MOST-C-c, amount-right};
 ghost use Rattle.month_consumption.specs.MonthConsumption.{month-34, month-other};
-use coefficients::Fraction;
+use temperature::Fraction;
 use supply::Amount;
 use supply::THOUSAND;
 

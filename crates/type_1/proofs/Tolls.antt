@@ -19,8 +19,8 @@ use Rattle.months.specs.WorkingDays.{N-lab, N-res}
 use Rattle.calendar.proofs.Holidays.{calendar-day, calendar-rising}
 use Rattle.months.proofs.Months.{month-length, month-holds}
 use Rattle.months.proofs.Masks.{some-working, some-other, working-all}
-use Rattle.coefficients.specs.Temperature.{MOST-DAYS, MOST-DEGREES, is-degrees}
-use Rattle.winters.proofs.Winters.{Month}
+use Rattle.temperature.specs.Temperature.{MOST-DAYS, MOST-DEGREES, is-degrees}
+use Rattle.temperature.proofs.Winters.{Month}
 use Rattle.supply.specs.Amounts.{THOUSAND, MOST-C-c, amount-right}
 use Rattle.type_1.specs.Type1.{last-days-right, toll-34-right, sharing, other-right}
 use Rattle.supply.specs.declared.Amount.{Amount}

@@ -15,7 +15,7 @@ use Rattle.months.specs.WorkingDays.{N-lab, N-res}
 use Rattle.months.specs.declared.Month.{Month}
 use Rattle.month_consumption.specs.MonthConsumption.{month-34, month-other}
 use Rattle.day_share.specs.DayShare.{day-of, part-of}
-use Rattle.coefficients.specs.Temperature.{is-degrees, C-temp1}
+use Rattle.temperature.specs.Temperature.{is-degrees, C-temp1}
 use Rattle.supply.specs.Amounts.{THOUSAND, MOST-C-c, amount-right}
 use Rattle.supply.specs.declared.Amount.{Amount}
 

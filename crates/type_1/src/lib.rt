@@ -36,7 +36,7 @@ fn are_last_days(day: u32, last_days: &[u32]) -> bool
     if last_days.len() != months::days_last_year(month) as usize {
         return false;
     }
-    winters::are_all_degrees(last_days)
+    temperature::are_all_degrees(last_days)
 }
 
 // Whether everything that is given for a point of toll 3.4 is in its range.
@@ -56,7 +56,7 @@ fn is_toll_34(
     if !are_amounts(last_year, last_month, year_flow) {
         return false;
     }
-    if !winters::are_degrees(g) {
+    if !temperature::are_degrees(g) {
         return false;
     }
     are_last_days(day, last_days)
@@ -76,8 +76,8 @@ pub fn toll_34(
     if !is_toll_34(day, last_year, g, last_days, last_month, year_flow) {
         return ConsumptionAnswer::Refused(OUT_OF_RANGE);
     }
-    let mean = winters::mean_of(last_days);
-    let correction = coefficients::correction_of(g, mean);
+    let mean = temperature::mean_of(last_days);
+    let correction = temperature::correction_of(g, mean);
     let basis = month_consumption::month_of_34(last_year, correction, last_month, year_flow);
     let month = months::month_of_day(day);
     day_share::day_of_month(basis, 1, month.days as u64)

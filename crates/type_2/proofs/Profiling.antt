@@ -6,7 +6,7 @@ use Prim.Native.Nat.{ℕ, _≤_}
 use lib.Dec.{leb}
 use borrow.Author.Tests.{leb-true}
 use Rattle.numbers.proofs.Lists.{both-fst, both-snd}
-use Rattle.coefficients.specs.Temperature.{FEWEST-DAYS, MOST-DAYS, MOST-DEGREES, is-degrees, winters-right}
+use Rattle.temperature.specs.Temperature.{FEWEST-DAYS, MOST-DAYS, MOST-DEGREES, is-degrees, winters-right}
 use Rattle.type_2.specs.Type2.{MOST-CONSUMERS, TRILLION, type-2-right, year-right}
 
 pub record Right2 (consumers profile g k : ℕ) (first second : List ℕ) : Type 0 where

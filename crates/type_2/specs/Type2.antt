@@ -9,7 +9,7 @@ use Rattle.numbers.specs.Nearest.{nearest}
 use Rattle.numbers.specs.Sums.{total}
 use Rattle.numbers.specs.Lists.{both, every}
 use Rattle.calendar.specs.Answers.{Answer, refused, given, _when_, tested, OUT-OF-RANGE, TOO-LARGE, NO-BASIS}
-use Rattle.coefficients.specs.Temperature.{times, divided, rounded, FEWEST-DAYS, MOST-DAYS, is-degrees, mean, correction, C-temp2, winters-mean, winter-right, winters-right}
+use Rattle.temperature.specs.Temperature.{times, divided, rounded, FEWEST-DAYS, MOST-DAYS, is-degrees, mean, correction, C-temp2, winters-mean, winter-right, winters-right}
 use Rattle.supply.specs.Amounts.{limited}
 use Rattle.type_2.specs.declared.ProfileAnswer.{ProfileAnswer}
 use Rattle.type_2.specs.declared.ProfileAnswer.the-variants.{Refused, Wh}

@@ -6,8 +6,8 @@ use calendar::NO_BASIS;
 use calendar::OUT_OF_RANGE;
 use calendar::TOO_LARGE;
 use supply::ConsumptionAnswer;
-use winters::FEWEST_DAYS;
-use winters::MOST_DAYS;
+use temperature::FEWEST_DAYS;
+use temperature::MOST_DAYS;
 
 pub enum ProfileAnswer {
     Refused(u8),
@@ -39,10 +39,10 @@ fn is_type_2(
     if TRILLION < profile {
         return false;
     }
-    if !winters::are_degrees(g) {
+    if !temperature::are_degrees(g) {
         return false;
     }
-    winters::are_winters(winters, first, second)
+    temperature::are_winters(winters, first, second)
 }
 
 // The consumption of Type 2 consumers of one profile, on a gas day with g degree days, after one or two winters.
@@ -63,8 +63,8 @@ pub fn type_2(
     if TRILLION < product {
         return ConsumptionAnswer::Refused(TOO_LARGE);
     }
-    let mean = winters::mean_of_winters(winters, first, second);
-    let correction = coefficients::correction_of(g, mean);
+    let mean = temperature::mean_of_winters(winters, first, second);
+    let correction = temperature::correction_of(g, mean);
     supply::limited_to(numbers::nearest(product * correction.top, correction.bottom * KILO))
 }
 

@@ -8,9 +8,9 @@ use Rattle.day_share.specs.DayShare.{day-of}
 use Rattle.type_1.specs.Type1.{toll-34}
 use Rattle.calendar.specs.Answers.{tested}
 use Rattle.months.proofs.Months.{month-holds}
-use Rattle.coefficients.specs.Temperature.{correction, C-temp1}
-use Rattle.winters.proofs.Winters.{mean-sound}
-use Rattle.coefficients.proofs.Fractions.{corrects}
+use Rattle.temperature.specs.Temperature.{correction, C-temp1}
+use Rattle.temperature.proofs.Winters.{mean-sound}
+use Rattle.temperature.proofs.Fractions.{corrects}
 use Rattle.month_consumption.proofs.Bases.{small-34}
 use Rattle.type_1.proofs.Tolls.{Right34, right-34}
 use Rattle.type_1.proofs.toll_34.Statement.{statement}

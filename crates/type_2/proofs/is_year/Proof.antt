@@ -1,6 +1,6 @@
 -- `type_2::is_year` meets its contract. The tests are the definition's. Assumes nothing.
 use borrow.Author.Tests.{le-leb, lt-leb}
-use Rattle.coefficients.specs.Temperature.{FEWEST-DAYS}
+use Rattle.temperature.specs.Temperature.{FEWEST-DAYS}
 use Rattle.type_2.specs.Type2.{MOST-CONSUMERS, TRILLION, year-right}
 use Rattle.type_2.proofs.is_year.Statement.{statement}
 use Rattle.type_2.proofs.is_year.Tie as tie

@@ -8,9 +8,9 @@ use borrow.Author.Tests.{lt-ltb, le-ltb, not-true, not-false}
 use borrow.Author.Needs.{needs}
 use Rattle.numbers.specs.Nearest.{nearest}
 use Rattle.calendar.specs.Answers.{tested}
-use Rattle.coefficients.specs.Temperature.{correction, C-temp2, Corrects}
-use Rattle.winters.proofs.Winters.{winters-sound}
-use Rattle.coefficients.proofs.Fractions.{corrects}
+use Rattle.temperature.specs.Temperature.{correction, C-temp2, Corrects}
+use Rattle.temperature.proofs.Winters.{winters-sound}
+use Rattle.temperature.proofs.Fractions.{corrects}
 use Rattle.supply.specs.Amounts.{limited}
 use Rattle.type_2.specs.Type2.{TRILLION, KILO, type-2-right, type-2}
 use Rattle.type_2.proofs.Profiling.{Right2, right-2}

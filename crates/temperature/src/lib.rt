@@ -1,12 +1,14 @@
-// The degree days of months and winters, and their means.
+// Temperature coefficients as exact fractions, and the means of months and winters that they are made of.
 ghost use mathlib.Core.Path.{_≡_};
 ghost use mathlib.Core.Bool.{true};
 ghost use Prim.Native.Nat.{_≤_};
 ghost use lib.ListN.{length};
 ghost use Rattle.numbers.specs.Sums.{total};
 ghost use Rattle.numbers.specs.Lists.{every};
-ghost use Rattle.coefficients.specs.Temperature.{MOST-DAYS, is-degrees, mean, winters-mean, winter-right, winters-right};
-use coefficients::Fraction;
+ghost use Rattle.temperature.specs.Temperature.{MOST-DEGREES, correction, Sound, MonthMean, sum, divided, MOST-DAYS, is-degrees, mean, winters-mean, winter-right, winters-right};
+
+// What is added to degree days on both sides of a correction.
+const ADDED: u64 = 160;
 
 // The days of a month.
 pub const FEWEST_DAYS: u32 = 28;
@@ -15,6 +17,34 @@ pub const MOST_DAYS: u32 = 31;
 
 // The most degree days of a day, in fortieths of a degree.
 const MOST_DEGREES: u32 = 2600;
+
+// An exact number.
+pub struct Fraction {
+    pub top: u64,
+    pub bottom: u64,
+}
+
+// (g + 160) / (mean + 160), of a mean over no more days than two winters have together.
+pub fn correction_of(g: u32, mean: Fraction) -> Fraction
+    requires { ⌜ (g ≤ MOST-DEGREES) × Sound mean ⌝ }
+    ensures { λ r. ⌜ r ≡ correction g mean ⌝ }
+{
+    Fraction {
+        top: (g as u64 + ADDED) * mean.bottom,
+        bottom: mean.top + ADDED * mean.bottom,
+    }
+}
+
+// The average of two winters' means.
+pub fn average_of(one: Fraction, other: Fraction) -> Fraction
+    requires { ⌜ MonthMean one × MonthMean other ⌝ }
+    ensures { λ r. ⌜ r ≡ divided (sum one other) 2 ⌝ }
+{
+    Fraction {
+        top: one.top * other.bottom + other.top * one.bottom,
+        bottom: one.bottom * other.bottom * 2,
+    }
+}
 
 // Whether a day's degree days are in their range.
 pub fn are_degrees(g: u32) -> bool
@@ -101,5 +131,5 @@ pub fn mean_of_winters(winters: u8, first: &[u32], second: &[u32]) -> Fraction
         return one;
     }
     let other = mean_of(second);
-    coefficients::average_of(one, other)
+    average_of(one, other)
 }

@@ -8,7 +8,7 @@ use lib.ListN.{length, replicate}
 use Rattle.numbers.specs.Nearest.{nearest}
 use Rattle.numbers.specs.Sums.{pick, total}
 use Rattle.numbers.specs.Lists.{both, every}
-use Rattle.coefficients.specs.declared.Fraction.{Fraction}
+use Rattle.temperature.specs.declared.Fraction.{Fraction}
 
 -- ---- exact fractions
 

@@ -6,10 +6,10 @@ use lib.ListN.{length, drop}
 use borrow.Author.Tests.{le-leb, lt-leb}
 use borrow.Author.Needs.{needs}
 use Rattle.numbers.specs.Lists.{every}
-use Rattle.coefficients.specs.Temperature.{MOST-DEGREES, is-degrees}
+use Rattle.temperature.specs.Temperature.{MOST-DEGREES, is-degrees}
 use Rattle.numbers.proofs.Places.{every-next, every-stop, every-end}
-use Rattle.winters.proofs.are_all_degrees.Statement.{statement}
-use Rattle.winters.proofs.are_all_degrees.Tie as tie
+use Rattle.temperature.proofs.are_all_degrees.Statement.{statement}
+use Rattle.temperature.proofs.are_all_degrees.Tie as tie
 
 abbrev Inv-loop : tie.InvT-loop
 Inv-loop days i₀ i = (i ≤ length days) × (every is-degrees days ≡ every is-degrees (drop i days))

@@ -3,9 +3,9 @@ use native.Mathlib.Omega.{arith}
 use lib.ListN.{length}
 use borrow.Author.Tests.{le-leb, lt-leb}
 use borrow.Author.Needs.{needs}
-use Rattle.coefficients.specs.Temperature.{FEWEST-DAYS, MOST-DAYS, winter-right}
-use Rattle.winters.proofs.is_winter.Statement.{statement}
-use Rattle.winters.proofs.is_winter.Tie as tie
+use Rattle.temperature.specs.Temperature.{FEWEST-DAYS, MOST-DAYS, winter-right}
+use Rattle.temperature.proofs.is_winter.Statement.{statement}
+use Rattle.temperature.proofs.is_winter.Tie as tie
 
 cast-if1 : tie.Need-cast-if1
 cast-if1 c = search needs

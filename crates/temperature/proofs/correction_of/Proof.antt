@@ -4,9 +4,9 @@ use Prim.Native.Nat.{_+_, _≤_}
 use native.Mathlib.Nat.{mul-le-mul}
 use native.Mathlib.Omega.{arith}
 use borrow.Author.Needs.{needs}
-use Rattle.coefficients.specs.Temperature.{correction}
-use Rattle.coefficients.proofs.correction_of.Statement.{statement}
-use Rattle.coefficients.proofs.correction_of.Tie as tie
+use Rattle.temperature.specs.Temperature.{correction}
+use Rattle.temperature.proofs.correction_of.Statement.{statement}
+use Rattle.temperature.proofs.correction_of.Tie as tie
 
 add-t4 : tie.Need-add-t4
 add-t4 c = search needs

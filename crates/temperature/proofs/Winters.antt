@@ -13,8 +13,8 @@ use Rattle.numbers.specs.Sums.{total}
 use Rattle.numbers.specs.Lists.{both, every}
 use Rattle.numbers.proofs.Sums.{cases}
 use Rattle.numbers.proofs.Lists.{both-fst, both-snd}
-use Rattle.coefficients.specs.Temperature.{FEWEST-DAYS, MOST-DAYS, MOST-DEGREES, is-degrees, mean, Sound, MonthMean, winters-mean, winter-right, winters-right}
-use Rattle.coefficients.proofs.Fractions.{cross, bottoms}
+use Rattle.temperature.specs.Temperature.{FEWEST-DAYS, MOST-DAYS, MOST-DEGREES, is-degrees, mean, Sound, MonthMean, winters-mean, winter-right, winters-right}
+use Rattle.temperature.proofs.Fractions.{cross, bottoms}
 use Rattle.numbers.proofs.Totals.{total-most}
 
 -- the degree days of a month

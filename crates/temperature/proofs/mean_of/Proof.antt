@@ -2,9 +2,9 @@
 use mathlib.Core.Path.{ap}
 use lib.ListN.{length}
 use borrow.Author.Needs.{needs}
-use Rattle.coefficients.specs.Temperature.{_over_, mean}
-use Rattle.winters.proofs.mean_of.Statement.{statement}
-use Rattle.winters.proofs.mean_of.Tie as tie
+use Rattle.temperature.specs.Temperature.{_over_, mean}
+use Rattle.temperature.proofs.mean_of.Statement.{statement}
+use Rattle.temperature.proofs.mean_of.Tie as tie
 
 total-of-requires : tie.Need-total-of-requires
 total-of-requires c κs = search needs

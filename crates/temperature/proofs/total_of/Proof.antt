@@ -5,10 +5,10 @@ use native.Mathlib.Omega.{arith}
 use lib.ListN.{length, drop}
 use borrow.Author.Needs.{needs}
 use Rattle.numbers.specs.Sums.{total}
-use Rattle.coefficients.specs.Temperature.{MOST-DEGREES}
+use Rattle.temperature.specs.Temperature.{MOST-DEGREES}
 use Rattle.numbers.proofs.Totals.{total-next, total-end, total-most}
-use Rattle.winters.proofs.total_of.Statement.{statement}
-use Rattle.winters.proofs.total_of.Tie as tie
+use Rattle.temperature.proofs.total_of.Statement.{statement}
+use Rattle.temperature.proofs.total_of.Tie as tie
 
 abbrev Inv-loop : tie.InvT-loop
 Inv-loop days sum₀ i₀ sum i = (i ≤ length days) × (total days ≡ sum + total (drop i days))

@@ -2,8 +2,8 @@
 use Prim.Native.Nat.{ℕ, _+_, _*_, _≤_}
 use native.Mathlib.Omega.{arith}
 use native.Mathlib.Nat.{mul-le-mul}
-use Rattle.coefficients.specs.Temperature.{MOST-DAYS, MOST-DEGREES, ADDED, correction, Corrects, Sound, MonthMean}
-use Rattle.coefficients.specs.declared.Fraction.{Fraction}
+use Rattle.temperature.specs.Temperature.{MOST-DAYS, MOST-DEGREES, ADDED, correction, Corrects, Sound, MonthMean}
+use Rattle.temperature.specs.declared.Fraction.{Fraction}
 
 pub cross : {f g : Fraction} → MonthMean f → MonthMean g → f .top * g .bottom ≤ MOST-DAYS * MOST-DEGREES * MOST-DAYS
 cross m n = mul-le-mul (m .top) (n .bottom)

@@ -1,10 +1,10 @@
 -- `winters::mean_of_winters` meets its contract. One winter's mean, or the average of two. Assumes nothing.
 use mathlib.Core.Path.{ap₂, _∙_}
 use borrow.Author.Tests.{eq-eqb, ne-eqb}
-use Rattle.coefficients.specs.Temperature.{sum, divided, winters-mean}
-use Rattle.winters.proofs.Winters.{month-mean, some-winter, second-winter}
-use Rattle.winters.proofs.mean_of_winters.Statement.{statement}
-use Rattle.winters.proofs.mean_of_winters.Tie as tie
+use Rattle.temperature.specs.Temperature.{sum, divided, winters-mean}
+use Rattle.temperature.proofs.Winters.{month-mean, some-winter, second-winter}
+use Rattle.temperature.proofs.mean_of_winters.Statement.{statement}
+use Rattle.temperature.proofs.mean_of_winters.Tie as tie
 
 mean-of-requires : tie.Need-mean-of-requires
 mean-of-requires c κs = let m = some-winter _ _ _ (c .before .before .pre) in (m .most, m .range)

@@ -2,9 +2,9 @@
 use mathlib.Core.Path.{sym, _∙_}
 use borrow.Author.Tests.{eq-eqb, ne-eqb, not-true, not-false}
 use borrow.Author.Needs.{needs}
-use Rattle.coefficients.specs.Temperature.{winters-right}
-use Rattle.winters.proofs.are_winters.Statement.{statement}
-use Rattle.winters.proofs.are_winters.Tie as tie
+use Rattle.temperature.specs.Temperature.{winters-right}
+use Rattle.temperature.proofs.are_winters.Statement.{statement}
+use Rattle.temperature.proofs.are_winters.Tie as tie
 
 is-winter-requires : tie.Need-is-winter-requires
 is-winter-requires c κs = search needs

@@ -1,9 +1,9 @@
 -- `coefficients::average_of` meets its contract. The products are small. Assumes nothing.
 use mathlib.Core.Path.{refl}
 use native.Mathlib.Omega.{arith}
-use Rattle.coefficients.proofs.Fractions.{cross, bottoms}
-use Rattle.coefficients.proofs.average_of.Statement.{statement}
-use Rattle.coefficients.proofs.average_of.Tie as tie
+use Rattle.temperature.proofs.Fractions.{cross, bottoms}
+use Rattle.temperature.proofs.average_of.Statement.{statement}
+use Rattle.temperature.proofs.average_of.Tie as tie
 
 mul-t3 : tie.Need-mul-t3
 mul-t3 c = let p = c .before .before .pre in omega (arith, cross (p .0) (p .1))
