@@ -15,7 +15,7 @@ use Rattle.calendar.specs.Days.{calendar-right}
 use Rattle.calendar.proofs.Holidays.{calendar-rising}
 use Rattle.supply.specs.Amounts.{amount-right, flows-right}
 use Rattle.history.specs.History.{ENTRIES, Dated, Metered, entry-right, history-right, last-three, sum-of, mean-value, looked-at, is-empty, is-new}
-use Rattle.last_readings.specs.Search.{found-in}
+use Rattle.history.specs.Search.{found-in}
 use Rattle.telemetered.specs.Telemetered.{own-right, with-basis, from-history, from-found, values-right}
 use Rattle.supply.specs.NewConsumer.{new-consumption}
 use Rattle.supply.specs.declared.Amount.{Amount}

@@ -18,7 +18,7 @@ use Rattle.telemetered.specs.declared.OwnValue.{OwnValue}
 use Rattle.telemetered.specs.declared.OwnValue.the-variants.{NotSent, Sent}
 use Rattle.supply.specs.declared.Flows.{Flows}
 use Rattle.history.specs.declared.Entry.{Entry}
-use Rattle.last_readings.specs.declared.Found.{Found}
+use Rattle.history.specs.declared.Found.{Found}
 use Rattle.telemetered.specs.declared.TelemeteredAnswer.{TelemeteredAnswer}
 use Rattle.telemetered.specs.declared.TelemeteredAnswer.the-variants.{Refused, Consumption}
 

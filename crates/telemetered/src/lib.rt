@@ -7,7 +7,7 @@ use calendar::NO_BASIS;
 use calendar::OUT_OF_RANGE;
 use history::ENTRIES;
 use history::Entry;
-use last_readings::Found;
+use history::Found;
 use supply::Amount;
 use supply::Flows;
 use supply::LIMIT;
@@ -116,6 +116,6 @@ pub fn telemetered(
     if let Amount::Known(kwh) = known {
         return TelemeteredAnswer::Consumption { kwh, looked: 0 };
     }
-    let found = last_readings::search(day, holidays, history, count);
+    let found = history::search(day, holidays, history, count);
     from_found(found, flows)
 }

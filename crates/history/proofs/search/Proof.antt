@@ -10,14 +10,14 @@ use lib.ListN.{length, getD, take}
 use borrow.Author.Needs.{needs}
 use Rattle.numbers.proofs.Places.{every-at}
 use Rattle.supply.specs.Amounts.{LIMIT}
-use Rattle.last_readings.specs.Search.{hit-of}
+use Rattle.history.specs.Search.{hit-of}
 use Rattle.history.specs.History.{ENTRIES, entry-right, MATCHES}
 use Rattle.history.specs.declared.Reading.the-variants.{Nothing}
 use Rattle.history.specs.declared.Entry.{Entry}
 use Rattle.calendar.specs.DayTypes.{day-type}
-use Rattle.last_readings.proofs.Searching.{Going, going-start, going-real, going-idle, next-small, next-few, third, at-end}
-use Rattle.last_readings.proofs.search.Statement.{statement}
-use Rattle.last_readings.proofs.search.Tie as tie
+use Rattle.history.proofs.Searching.{Going, going-start, going-real, going-idle, next-small, next-few, third, at-end}
+use Rattle.history.proofs.search.Statement.{statement}
+use Rattle.history.proofs.search.Tie as tie
 
 abbrev none : Entry
 none = record { reading = Nothing }

@@ -7,13 +7,13 @@ use native.Mathlib.Omega.{arith}
 use Rattle.numbers.specs.Sums.{total}
 use Rattle.calendar.specs.DayTypes.{day-type, same-type}
 use Rattle.calendar.specs.declared.DayType.{DayType}
 use Rattle.history.specs.History.{matching, sum-of, real-value}
 use Rattle.history.proofs.Laws.{missing-known}
-use Rattle.last_readings.specs.Search.{hit-of}
+use Rattle.history.specs.Search.{hit-of}
 use Rattle.supply.specs.declared.Amount.{Amount}
 use Rattle.supply.specs.declared.Amount.the-variants.{Missing, Known}
 use Rattle.history.specs.declared.Reading.{Reading}
 use Rattle.history.specs.declared.Reading.the-variants.{Nothing, Real, Estimated, Own}
 
 -- the value of an amount, or 0
 amount-of : Amount → ℕ

@@ -18,14 +18,14 @@ use Rattle.numbers.proofs.Lists.{true≢false}
 use Rattle.calendar.specs.DayTypes.{day-type, same-type}
 use Rattle.calendar.specs.declared.DayType.{DayType}
 use Rattle.supply.specs.Amounts.{LIMIT}
 use Rattle.history.specs.History.{MATCHES, Dated, Metered, reading-right, dated, metered, real-readings, matching, last-three, sum-of, looked-at, is-empty, is-new}
-use Rattle.last_readings.specs.Search.{found-in, hit-of}
+use Rattle.history.specs.Search.{found-in, hit-of}
 use Rattle.history.specs.declared.Reading.{Reading}
 use Rattle.history.specs.declared.Reading.the-variants.{Nothing, Real, Estimated, Own}
 use Rattle.history.specs.declared.Entry.{Entry}
-use Rattle.last_readings.specs.declared.Hit.{Hit}
-use Rattle.last_readings.specs.declared.Found.{Found}
-use Rattle.last_readings.proofs.Hits.{hit-none, hit-match, hit-other}
+use Rattle.history.specs.declared.Hit.{Hit}
+use Rattle.history.specs.declared.Found.{Found}
+use Rattle.history.proofs.Hits.{hit-none, hit-match, hit-other}
 
 -- the day of the last of some readings
 last-day : ℕ → List Metered → ℕ

@@ -4,10 +4,10 @@ use mathlib.Core.List.{List}
 use Prim.Native.Nat.{ℕ}
 use lib.ListN.{length}
 use Rattle.calendar.specs.declared.DayType.{DayType}
 use Rattle.history.specs.History.{Dated, metered, matching, last-three, sum-of, looked-at, is-empty, is-new}
 use Rattle.history.specs.declared.Reading.{Reading}
-use Rattle.last_readings.specs.declared.Found.{Found}
-use Rattle.last_readings.specs.declared.Hit.{Hit}
+use Rattle.history.specs.declared.Found.{Found}
+use Rattle.history.specs.declared.Hit.{Hit}
 
 -- what a search of n entries yields: the sum and the number of the last three, the entries looked at, and whether any is real
 unfoldable pub found-in : List ℕ → ℕ → ℕ → List Dated → Found

@@ -2,9 +2,9 @@
 use mathlib.Core.Path.{sym, ap, _∙_}
 use borrow.Author.Needs.{needs}
 use Rattle.calendar.specs.DayTypes.{same-type}
-use Rattle.last_readings.proofs.Hits.{hit-none, hit-match, hit-other}
-use Rattle.last_readings.proofs.look_at.Statement.{statement}
-use Rattle.last_readings.proofs.look_at.Tie as tie
+use Rattle.history.proofs.Hits.{hit-none, hit-match, hit-other}
+use Rattle.history.proofs.look_at.Statement.{statement}
+use Rattle.history.proofs.look_at.Tie as tie
 
 real-value-requires : tie.Need-real-value-requires
 real-value-requires c κs = search needs
