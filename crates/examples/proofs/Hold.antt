@@ -34,8 +34,8 @@ use Rattle.supply.specs.Amounts.{flows-right, limited}
 use Rattle.supply.specs.NewConsumer.{new-consumption}
 use Rattle.history.specs.History as history
 use Rattle.telemetered.specs.Telemetered.{from-history, values-right, telemetered}
-use Rattle.month_consumption.specs.MonthConsumption.{month-other}
-use Rattle.day_share.specs.DayShare.{day-of}
+use Rattle.type_1.specs.MonthConsumption.{month-other}
+use Rattle.type_1.specs.DayShare.{day-of}
 use Rattle.type_1.specs.Type1.{other-right, other-toll}
 use Rattle.examples.specs.Examples.{Example, example, Holds, AllHold, Last, last, file-E, E-allotted, printed, examples}
 

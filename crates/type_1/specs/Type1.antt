@@ -13,8 +13,8 @@ use Rattle.calendar.specs.DayTypes.{is-working}
 use Rattle.months.specs.Months.{month-days, length-of, month-from, month-of, last-year-days}
 use Rattle.months.specs.WorkingDays.{N-lab, N-res}
 use Rattle.months.specs.declared.Month.{Month}
-use Rattle.month_consumption.specs.MonthConsumption.{month-34, month-other}
-use Rattle.day_share.specs.DayShare.{day-of, part-of}
+use Rattle.type_1.specs.MonthConsumption.{month-34, month-other}
+use Rattle.type_1.specs.DayShare.{day-of, part-of}
 use Rattle.temperature.specs.Temperature.{is-degrees, C-temp1}
 use Rattle.supply.specs.Amounts.{THOUSAND, MOST-C-c, amount-right}
 use Rattle.supply.specs.declared.Amount.{Amount}

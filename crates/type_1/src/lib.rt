@@ -1,4 +1,7 @@
 // Type 1 points: a month's consumption, shared out over its days.
+mod day_share;
+mod month_consumption;
+
 ghost use mathlib.Core.Path.{_≡_};
 ghost use Prim.Native.Nat.{_≤_};
 ghost use lib.Dec.{leb};

@@ -8,7 +8,7 @@ use borrow.Author.Tests.{leb-true}
 use Rattle.temperature.specs.Temperature.{MOST-DAYS, Corrects}
 use Rattle.temperature.specs.declared.Fraction.{Fraction}
 use Rattle.supply.specs.Amounts.{LIMIT, THOUSAND, MOST-C-c, amount-right}
-use Rattle.month_consumption.specs.MonthConsumption.{month-34, month-other, SmallBasis}
+use Rattle.type_1.specs.MonthConsumption.{month-34, month-other, SmallBasis}
 use Rattle.supply.specs.declared.Amount.{Amount}
 use Rattle.supply.specs.declared.Amount.the-variants.{Missing, Known}
 

@@ -1,8 +1,8 @@
 -- `day_share::days_for` meets its contract. Each branch is a case of the definition. Assumes nothing.
 use mathlib.Core.Path.{refl}
 use borrow.Author.Needs.{needs}
-use Rattle.day_share.proofs.days_for.Statement.{statement}
-use Rattle.day_share.proofs.days_for.Tie as tie
+use Rattle.type_1.proofs.day_share.days_for.Statement.{statement}
+use Rattle.type_1.proofs.day_share.days_for.Tie as tie
 
 sub-result : tie.Need-sub-result
 sub-result c = search needs

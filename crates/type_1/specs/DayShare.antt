@@ -7,8 +7,8 @@ use Rattle.numbers.specs.Sums.{pick}
 use Rattle.calendar.specs.Answers.{Answer, refused, given, tested, NO-BASIS}
 use Rattle.temperature.specs.Temperature.{_over_, times, divided, rounded, MOST-DAYS}
 use Rattle.supply.specs.Amounts.{THOUSAND, limited}
-use Rattle.month_consumption.specs.declared.Basis.{Basis}
-use Rattle.month_consumption.specs.declared.Basis.the-variants.{NoBasis, OfMonth}
+use Rattle.type_1.specs.declared.month_consumption.Basis.{Basis}
+use Rattle.type_1.specs.declared.month_consumption.Basis.the-variants.{NoBasis, OfMonth}
 
 -- C_d = C_m × part / divisor, rounded once
 unfoldable pub day-of : Basis → ℕ → ℕ → Answer ℕ

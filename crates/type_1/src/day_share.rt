@@ -1,12 +1,12 @@
-// A day's share of a month's consumption of a Type 1 point.
+// C_d, a day's share of a month's consumption of a Type 1 point.
 ghost use mathlib.Core.Path.{_≡_};
 ghost use Prim.Native.Nat.{_≤_, _-_};
 ghost use Rattle.numbers.specs.Sums.{pick};
 ghost use Rattle.supply.specs.Amounts.{THOUSAND, consumption-said};
-ghost use Rattle.month_consumption.specs.MonthConsumption.{SmallBasis};
-ghost use Rattle.day_share.specs.DayShare.{day-of, part-of, MOST-DIVISOR};
+ghost use Rattle.type_1.specs.MonthConsumption.{SmallBasis};
+ghost use Rattle.type_1.specs.DayShare.{day-of, part-of, MOST-DIVISOR};
 use calendar::NO_BASIS;
-use month_consumption::Basis;
+use crate::month_consumption::Basis;
 use supply::ConsumptionAnswer;
 use supply::THOUSAND;
 

@@ -1,7 +1,7 @@
 -- `day_share::part_for` meets its contract. Each branch is a case of the definition. Assumes nothing.
 use borrow.Author.Needs.{needs}
-use Rattle.day_share.proofs.part_for.Statement.{statement}
-use Rattle.day_share.proofs.part_for.Tie as tie
+use Rattle.type_1.proofs.day_share.part_for.Statement.{statement}
+use Rattle.type_1.proofs.day_share.part_for.Tie as tie
 
 sub-result : tie.Need-sub-result
 sub-result c = search needs

@@ -1,13 +1,13 @@
-// A month's consumption of a Type 1 point.
+// C_m, a month's consumption of a Type 1 point.
 ghost use mathlib.Core.Path.{_≡_};
 ghost use mathlib.Core.Bool.{true};
 ghost use Prim.Native.Nat.{_≤_};
 ghost use Rattle.temperature.specs.Temperature.{MOST-DAYS, Corrects};
 ghost use Rattle.supply.specs.Amounts.{THOUSAND, MOST-C-c, amount-right};
-ghost use Rattle.month_consumption.specs.MonthConsumption.{month-34, month-other};
-use temperature::Fraction;
+ghost use Rattle.type_1.specs.MonthConsumption.{month-34, month-other};
 use supply::Amount;
 use supply::THOUSAND;
+use temperature::Fraction;
 
 // A month's consumption as an exact fraction, if there is a basis for it.
 pub enum Basis {

@@ -4,10 +4,10 @@ use native.Mathlib.Nat.{mul-le-mul, mul-pos}
 use native.Mathlib.Omega.{arith}
 use borrow.Author.Needs.{needs}
 use Rattle.supply.specs.Amounts.{limited}
-use Rattle.month_consumption.specs.MonthConsumption.{SmallBasis}
-use Rattle.day_share.specs.DayShare.{day-of}
-use Rattle.day_share.proofs.day_of_month.Statement.{statement}
-use Rattle.day_share.proofs.day_of_month.Tie as tie
+use Rattle.type_1.specs.MonthConsumption.{SmallBasis}
+use Rattle.type_1.specs.DayShare.{day-of}
+use Rattle.type_1.proofs.day_share.day_of_month.Statement.{statement}
+use Rattle.type_1.proofs.day_share.day_of_month.Tie as tie
 
 enum-known-basis : tie.Need-enum-known-basis
 enum-known-basis c = search needs

@@ -5,8 +5,8 @@ use Rattle.temperature.specs.declared.Fraction.{Fraction}
 use Rattle.supply.specs.Amounts.{THOUSAND, TEN-THOUSAND}
 use Rattle.supply.specs.declared.Amount.{Amount}
 use Rattle.supply.specs.declared.Amount.the-variants.{Missing, Known}
-use Rattle.month_consumption.specs.declared.Basis.{Basis}
-use Rattle.month_consumption.specs.declared.Basis.the-variants.{NoBasis, OfMonth}
+use Rattle.type_1.specs.declared.month_consumption.Basis.{Basis}
+use Rattle.type_1.specs.declared.month_consumption.Basis.the-variants.{NoBasis, OfMonth}
 
 -- C_m, the consumption of the gas day's month, is an exact fraction or has no basis
 
