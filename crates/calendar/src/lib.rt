@@ -86,7 +86,7 @@ pub fn is_calendar(day: u32, holidays: &[u32]) -> bool
 }
 
 // Whether the day is a holiday, by halving.
-pub fn is_holiday(day: u32, holidays: &[u32]) -> bool
+fn is_holiday(day: u32, holidays: &[u32]) -> bool
     requires { ⌜ rising (now holidays) ≡ true ⌝ }
     ensures { λ r. ⌜ r ≡ has day (now (holidays .entry)) ⌝ }
 {

@@ -7,7 +7,7 @@ use calendar::DayType;
 use calendar::DayTypeAnswer;
 use degree_days::DegreeDays;
 use libc::STDIN_FILENO;
-use reading::SpreadAnswer;
+use spread::SpreadAnswer;
 use supply::Amount;
 use supply::ConsumptionAnswer;
 use supply::Flows;
@@ -290,7 +290,7 @@ fn province(s: &[u8], from: Cursor) -> Cursor {
 
 // The answer, and the lent numbers after it.
 fn print_spread(reading: u64, weights: &[i64], lent: &mut [i64]) {
-    let answer = reading::spread(reading, weights, lent);
+    let answer = spread::spread(reading, weights, lent);
     match answer {
         SpreadAnswer::Refused(n) => {
             output::text(b"refused");

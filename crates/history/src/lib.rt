@@ -106,7 +106,7 @@ fn known_if(counts: bool, value: u64) -> Amount
 }
 
 // The value of a real reading: no other counts.
-pub fn real_value(reading: Reading) -> Amount
+fn real_value(reading: Reading) -> Amount
     ensures { λ r. ⌜ r ≡ real-value reading ⌝ }
 {
     match reading {

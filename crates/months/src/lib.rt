@@ -38,7 +38,7 @@ pub enum MonthAnswer {
 }
 
 // The days of a month of a year, January being month 1.
-pub fn days_of_month(year: u32, month: u32) -> u32
+fn days_of_month(year: u32, month: u32) -> u32
     ensures { λ r. ⌜ r ≡ month-days year month ⌝ }
 {
     match month {
@@ -99,7 +99,7 @@ fn working_bit(day: u32, holidays: &[u32]) -> u32
 }
 
 // The mask of the working days of a month, bit 0 for its first day.
-pub fn mask_of_month(month: Month, holidays: &[u32]) -> u32
+fn mask_of_month(month: Month, holidays: &[u32]) -> u32
     requires { ⌜ (rising (now holidays) ≡ true) × (month .first ≤ LAST-DAY) × (month .days < MASK-BITS) ⌝ }
     ensures { λ r. ⌜ r ≡ working-mask (now (holidays .entry)) month ⌝ }
 {

@@ -36,7 +36,7 @@ pub fn correction_of(g: u32, mean: Fraction) -> Fraction
 }
 
 // The average of two winters' means.
-pub fn average_of(one: Fraction, other: Fraction) -> Fraction
+fn average_of(one: Fraction, other: Fraction) -> Fraction
     requires { ⌜ MonthMean one × MonthMean other ⌝ }
     ensures { λ r. ⌜ r ≡ divided (sum one other) 2 ⌝ }
 {
