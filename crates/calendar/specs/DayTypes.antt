@@ -6,7 +6,8 @@ use Prim.Native.Nat.{ℕ, _%_}
 use lib.Dec.{eqb}
 use Rattle.numbers.specs.Sums.{pick}
 use Rattle.numbers.specs.Lists.{either, has}
-use Rattle.calendar.specs.Answers.{Answer, refused, given, _when_, tested, OUT-OF-RANGE}
+use Rattle.numbers.specs.Refusals.{OUT-OF-RANGE}
+use Rattle.calendar.specs.Answers.{Answer, refused, given, _when_, tested}
 use Rattle.calendar.specs.Days.{calendar-right}
 use Rattle.calendar.specs.declared.DayType.{DayType}
 use Rattle.calendar.specs.declared.DayType.the-variants.{Working, Saturday, SundayOrHoliday}
@@ -52,10 +53,10 @@ same-type SundayOrHoliday SundayOrHoliday = true
 unfoldable pub type-call : ℕ → List ℕ → Answer DayType
 type-call d hs = tested ((OUT-OF-RANGE when not (calendar-right d hs)) ∷ []) (given (day-type hs d))
 
--- what the enum says, case by case
-abbrev pub type-said : DayTypeAnswer → Answer DayType
-type-said (Refused n) = refused n
-type-said (Is t) = given t
+-- what each case of the answer stands for
+abbrev pub answer-of : DayTypeAnswer → Answer DayType
+answer-of (Refused n) = refused n
+answer-of (Is t) = given t
 
 -- 6 January 2016 is a Wednesday; 2 January a Saturday, and a holiday on it is no Saturday any more; 3 January a Sunday
 plain : day-type [] 5 ≡ Working

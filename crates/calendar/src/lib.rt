@@ -3,16 +3,8 @@ ghost use mathlib.Core.Path.{_≡_};
 ghost use mathlib.Core.Bool.{true};
 ghost use Rattle.numbers.specs.Lists.{has, rising};
 ghost use Rattle.calendar.specs.Days.{is-gas-day, holidays-right, calendar-right};
-ghost use Rattle.calendar.specs.DayTypes.{day-type, is-working-type, same-type, type-call, type-said};
-
-// Row 2 of the table of refusals: a value or list outside its stated range.
-pub const OUT_OF_RANGE: u8 = 2;
-
-// Row 6: a computed consumption too large.
-pub const TOO_LARGE: u8 = 6;
-
-// Row 15: no basis for an estimate.
-pub const NO_BASIS: u8 = 15;
+ghost use Rattle.calendar.specs.DayTypes.{day-type, is-working-type, same-type, type-call, answer-of};
+use numbers::OUT_OF_RANGE;
 
 // 31 December 2099.
 pub const LAST_DAY: u32 = 30680;
@@ -30,6 +22,12 @@ pub enum DayType {
     Working,
     Saturday,
     SundayOrHoliday,
+}
+
+// What a call answers that gives one number.
+pub enum NumberAnswer {
+    Refused(u8),
+    Given(u64),
 }
 
 pub enum DayTypeAnswer {
@@ -157,7 +155,7 @@ pub fn are_same(one: DayType, other: DayType) -> bool
 
 // The type of a gas day.
 pub fn day_type(day: u32, holidays: &[u32]) -> DayTypeAnswer
-    ensures { λ r. ⌜ type-said r ≡ type-call day (now (holidays .entry)) ⌝ }
+    ensures { λ r. ⌜ answer-of r ≡ type-call day (now (holidays .entry)) ⌝ }
 {
     if !is_calendar(day, holidays) {
         return DayTypeAnswer::Refused(OUT_OF_RANGE);

@@ -1,29 +1,35 @@
 // Runs the calls on supply points and on the calendar with cases from standard input.
 mod input;
 
-use cursor::Cursor;
-use cursor::MOST_LENT;
 use calendar::DayType;
 use calendar::DayTypeAnswer;
-use degree_days::DegreeDays;
+use calendar::NumberAnswer;
+use cursor::Cursor;
+use cursor::MOST_LENT;
+use degree_days::DegreeDaysAnswer;
 use libc::STDIN_FILENO;
+use months::MonthAnswer;
 use spread::SpreadAnswer;
 use supply::Amount;
-use supply::ConsumptionAnswer;
 use supply::Flows;
 use supply::Toll;
 use telemetered::OwnValue;
 use telemetered::TelemeteredAnswer;
-use type_2::ProfileAnswer;
-use months::MonthAnswer;
 use zones::ProvinceAnswer;
-use zones::ZoneAnswer;
 
 // The most bytes of input.
 const MOST_INPUT: usize = 1048576;
 
 // The most lists of winters that are read.
 const MOST_WINTERS: u64 = 8;
+
+// An answer that gives one number, under its name.
+fn print_number(name: &[u8], answer: NumberAnswer) {
+    match answer {
+        NumberAnswer::Refused(n) => output::refused(n),
+        NumberAnswer::Given(v) => output::one(name, v),
+    }
+}
 
 // ---- telemetered
 
@@ -108,13 +114,6 @@ fn telemetered(s: &[u8], from: Cursor) -> Cursor {
 
 // ---- Type 1 and Type 2
 
-fn print_consumption(name: &[u8], answer: ConsumptionAnswer) {
-    match answer {
-        ConsumptionAnswer::Refused(n) => output::refused(n),
-        ConsumptionAnswer::Kwh(kwh) => output::one(name, kwh),
-    }
-}
-
 fn toll_34(s: &[u8], from: Cursor) -> Cursor {
     let day = input::take_word(s, from);
     let last_year = input::take_optional(s, day.next);
@@ -130,7 +129,7 @@ fn toll_34(s: &[u8], from: Cursor) -> Cursor {
         let month = last_month.amount;
         let flow = year.amount;
         let answer = type_1::toll_34(day.value, last, g.value, &days[..n], month, flow);
-        print_consumption(b"type1", answer);
+        print_number(b"type1", answer);
     }
     next
 }
@@ -161,7 +160,7 @@ fn other_toll(s: &[u8], from: Cursor) -> Cursor {
             f_c.value,
             c_f.value,
         );
-        print_consumption(b"type1", answer);
+        print_number(b"type1", answer);
     }
     next
 }
@@ -199,16 +198,9 @@ fn type_2(s: &[u8], from: Cursor) -> Cursor {
             &first[..m],
             &second[..n],
         );
-        print_consumption(b"type2", answer);
+        print_number(b"type2", answer);
     }
     next
-}
-
-fn print_profile(answer: ProfileAnswer) {
-    match answer {
-        ProfileAnswer::Refused(n) => output::refused(n),
-        ProfileAnswer::Wh(wh) => output::one(b"profile", wh),
-    }
 }
 
 fn profile(s: &[u8], from: Cursor) -> Cursor {
@@ -220,24 +212,18 @@ fn profile(s: &[u8], from: Cursor) -> Cursor {
     let n2 = input::take_word(s, n1.next);
     let next = n2.next;
     if next.ok {
-        print_profile(type_2::profile(
-            f1.value,
-            f2.value,
-            nc1.value,
-            nc2.value,
-            n1.value,
-            n2.value,
-        ));
+        let answer = type_2::profile(f1.value, f2.value, nc1.value, nc2.value, n1.value, n2.value);
+        print_number(b"profile", answer);
     }
     next
 }
 
 // ---- degree days, zones and provinces
 
-fn print_degree_days(answer: DegreeDays) {
+fn print_degree_days(answer: DegreeDaysAnswer) {
     match answer {
-        DegreeDays::Refused(n) => output::refused(n),
-        DegreeDays::Fortieths(d) => output::one(b"degree-days", d),
+        DegreeDaysAnswer::Refused(n) => output::refused(n),
+        DegreeDaysAnswer::Fortieths(d) => output::one(b"degree-days", d),
     }
 }
 
@@ -254,18 +240,11 @@ fn degree_days(s: &[u8], from: Cursor) -> Cursor {
     next
 }
 
-fn print_zone(answer: ZoneAnswer) {
-    match answer {
-        ZoneAnswer::Refused(n) => output::refused(n),
-        ZoneAnswer::Zone(z) => output::one(b"zone", z as u64),
-    }
-}
-
 fn zone(s: &[u8], from: Cursor) -> Cursor {
     let hundredths = input::take_word(s, from);
     let next = hundredths.next;
     if next.ok {
-        print_zone(zones::zone_of(hundredths.value));
+        print_number(b"zone", zones::zone_of(hundredths.value));
     }
     next
 }
@@ -273,7 +252,11 @@ fn zone(s: &[u8], from: Cursor) -> Cursor {
 fn print_province(answer: ProvinceAnswer) {
     match answer {
         ProvinceAnswer::Refused(n) => output::refused(n),
-        ProvinceAnswer::Of { value, zone } => output::two(b"province", value as u64, zone as u64),
+        ProvinceAnswer::ValueAndZone { value, zone } => output::two(
+            b"province",
+            value as u64,
+            zone as u64,
+        ),
     }
 }
 
@@ -345,7 +328,7 @@ fn day_type(s: &[u8], from: Cursor) -> Cursor {
 fn print_month(answer: MonthAnswer) {
     match answer {
         MonthAnswer::Refused(n) => output::refused(n),
-        MonthAnswer::Of {
+        MonthAnswer::Figures {
             first,
             days,
             mask,

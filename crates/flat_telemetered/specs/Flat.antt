@@ -4,7 +4,8 @@ use Prim.Native.Nat.{ℕ, _+_}
 use lib.Dec.{eqb}
 use lib.ListN.{length}
 use Rattle.numbers.specs.Sums.{pick, table, at}
-use Rattle.calendar.specs.Answers.{Answer, refused, given, OUT-OF-RANGE}
+use Rattle.numbers.specs.Refusals.{OUT-OF-RANGE}
+use Rattle.calendar.specs.Answers.{Answer, refused, given}
 use Rattle.supply.specs.Amounts.{LIMIT}
 use Rattle.telemetered.specs.Telemetered.{Estimate, telemetered}
 use Rattle.supply.specs.declared.Amount.the-variants.{Missing, Known}

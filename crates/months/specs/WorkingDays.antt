@@ -6,13 +6,14 @@ use Prim.Native.Nat.{ℕ, _+_, _-_, _*_, _%_, _^_}
 use lib.Count.{onesIn}
 use Rattle.numbers.specs.Sums.{bit, sum}
 use Rattle.numbers.specs.Lists.{has}
-use Rattle.calendar.specs.Answers.{Answer, refused, given, _when_, tested, OUT-OF-RANGE}
+use Rattle.numbers.specs.Refusals.{OUT-OF-RANGE}
+use Rattle.calendar.specs.Answers.{Answer, refused, given, _when_, tested}
 use Rattle.calendar.specs.Days.{calendar-right}
 use Rattle.calendar.specs.DayTypes.{day-type, is-working}
 use Rattle.months.specs.Months.{month-days, length-of, month-from, month-of}
 use Rattle.months.specs.declared.Month.{Month}
 use Rattle.months.specs.declared.MonthAnswer.{MonthAnswer}
-use Rattle.months.specs.declared.MonthAnswer.the-variants.{Refused, Of}
+use Rattle.months.specs.declared.MonthAnswer.the-variants.{Refused, Figures}
 
 -- "The working days of a month are a mask, bit 0 for the first"
 unfoldable pub working-mask : List ℕ → Month → ℕ
@@ -43,10 +44,10 @@ month-call d hs =
     tested ((OUT-OF-RANGE when not (calendar-right d hs)) ∷ [])
     (given (record { first = m .first; days = m .days; mask = working-mask hs m; working = N-lab hs m }))
 
--- what the enum says, case by case
-abbrev pub month-said : MonthAnswer → Answer MonthFigures
-month-said (Refused n) = refused n
-month-said (Of first days mask working) = given (record { first = first; days = days; mask = mask; working = working })
+-- what each case of the answer stands for
+abbrev pub answer-of : MonthAnswer → Answer MonthFigures
+answer-of (Refused n) = refused n
+answer-of (Figures first days mask working) = given (record { first = first; days = days; mask = mask; working = working })
 
 -- June 2016 without holidays has 22 working days, the first three Wednesday to Friday
 june-2016 : working-mask [] (month-of 152) % 32 ≡ 7

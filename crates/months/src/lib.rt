@@ -7,8 +7,8 @@ ghost use Rattle.numbers.specs.Lists.{rising};
 ghost use Rattle.calendar.specs.Days.{LAST-DAY};
 ghost use Rattle.calendar.specs.DayTypes.{is-working};
 ghost use Rattle.months.specs.Months.{FIRST-YEAR, MONTHS, month-days, length-of, month-of, last-year-days};
-ghost use Rattle.months.specs.WorkingDays.{MASK-BITS, working-mask, N-lab, month-call, month-said};
-use calendar::OUT_OF_RANGE;
+ghost use Rattle.months.specs.WorkingDays.{MASK-BITS, working-mask, N-lab, month-call, answer-of};
+use numbers::OUT_OF_RANGE;
 
 // The year of day 0.
 const FIRST_YEAR: u32 = 2016;
@@ -29,7 +29,7 @@ pub struct Month {
 
 pub enum MonthAnswer {
     Refused(u8),
-    Of {
+    Figures {
         first: u32,
         days: u32,
         mask: u32,
@@ -124,14 +124,14 @@ pub fn working_days(month: Month, holidays: &[u32]) -> u32
 
 // The month of a gas day: its first day, its days, its working days as a mask, and how many they are.
 pub fn month_figures(day: u32, holidays: &[u32]) -> MonthAnswer
-    ensures { λ r. ⌜ month-said r ≡ month-call day (now (holidays .entry)) ⌝ }
+    ensures { λ r. ⌜ answer-of r ≡ month-call day (now (holidays .entry)) ⌝ }
 {
     if !calendar::is_calendar(day, holidays) {
         return MonthAnswer::Refused(OUT_OF_RANGE);
     }
     let m = month_of_day(day);
     let mask = mask_of_month(m, holidays);
-    MonthAnswer::Of {
+    MonthAnswer::Figures {
         first: m.first,
         days: m.days,
         mask,

@@ -8,6 +8,7 @@ use lib.IntN.{ℤ, pos, negsuc}
 use lib.ListN.{length, drop}
 use Rattle.numbers.specs.Sums.{table, sum, total}
 use Rattle.numbers.specs.Lists.{every}
+use Rattle.numbers.specs.Refusals.{OUT-OF-RANGE, NEGATIVE-WEIGHT, SHORT-BUFFER}
 use Rattle.proration.specs.Proration.{prorateZ, prorate, counted, split, share, left, before}
 use Rattle.point_day.specs.Limits.{AMOUNT}
 use Rattle.point_day.specs.Calls.{Test, _when_, Verdict, refuse, accept, verdict, negative}
@@ -18,9 +19,9 @@ use Rattle.spread.specs.declared.SpreadAnswer.the-variants.{Refused, Don
 -- the rows of section "Refusals" that apply: 2, 11 ("reading split") and 14 ("lent buffer under .. one a day")
 unfoldable pub tests : ℕ → List ℤ → List ℤ → List Test
 tests reading weights buffer =
-    (2 when not (in-range reading weights))
-    ∷ (11 when negative weights)
-    ∷ (14 when ltb (length buffer) (length weights))
+    (OUT-OF-RANGE when not (in-range reading weights))
+    ∷ (NEGATIVE-WEIGHT when negative weights)
+    ∷ (SHORT-BUFFER when ltb (length buffer) (length weights))
     ∷ []
 
 -- whether the call is refused, and the lent buffer afterwards
@@ -39,10 +40,10 @@ by accept reading weights buffer = outcome accept (parts reading weights ++ drop
 unfoldable pub spread : ℕ → List ℤ → List ℤ → Outcome
 spread reading weights buffer = by (verdict (tests reading weights buffer)) reading weights buffer
 
--- what each case of the code's answer stands for
-abbrev pub verdict-of : SpreadAnswer → Verdict
-verdict-of (Refused n) = refuse n
-verdict-of Done = accept
+-- what each case of the answer stands for
+abbrev pub answer-of : SpreadAnswer → Verdict
+answer-of (Refused n) = refuse n
+answer-of Done = accept
 
 -- the same as one number: that of the refusal, or 0
 abbrev pub number-of : Verdict → ℕ

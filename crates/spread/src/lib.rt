@@ -6,16 +6,12 @@ ghost use Prim.Native.Nat.{_≤_};
 ghost use lib.ListN.{length, drop, replicate};
 ghost use Rattle.proration.specs.Proration.{PARTIES};
 ghost use Rattle.spread.specs.Period.{in-range, days, parts};
-ghost use Rattle.spread.specs.Spread.{outcome, spread, verdict-of, number-of};
+ghost use Rattle.spread.specs.Spread.{outcome, spread, answer-of, number-of};
+use numbers::NEGATIVE_WEIGHT;
+use numbers::OUT_OF_RANGE;
+use numbers::SHORT_BUFFER;
 use point_day::LIMIT;
 use proration::PARTIES;
-
-// The rows of the table of refusals that apply.
-const OUT_OF_RANGE: u8 = 2;
-
-const NEGATIVE_WEIGHT: u8 = 11;
-
-const SHORT_BUFFER: u8 = 14;
 
 pub enum SpreadAnswer {
     Refused(u8),
@@ -80,7 +76,7 @@ fn spread_days(reading: u64, weights: &[i64], out: &mut [i64])
 
 // Spreads a reading over the days of its period by their weights, into a lent buffer whose later numbers stay.
 pub fn spread(reading: u64, weights: &[i64], out: &mut [i64]) -> SpreadAnswer
-    ensures { λ r. ⌜ outcome (verdict-of r) (now (out .exit)) ≡ spread reading (now (weights .entry)) (now (out .entry)) ⌝ }
+    ensures { λ r. ⌜ outcome (answer-of r) (now (out .exit)) ≡ spread reading (now (weights .entry)) (now (out .entry)) ⌝ }
 {
     if !is_in_range(reading, weights) {
         return SpreadAnswer::Refused(OUT_OF_RANGE);
@@ -97,7 +93,7 @@ pub fn spread(reading: u64, weights: &[i64], out: &mut [i64]) -> SpreadAnswer
 
 // An answer as one number: that of the refusal, or 0.
 fn number_of_answer(answer: SpreadAnswer) -> u8
-    ensures { λ r. ⌜ r ≡ number-of (verdict-of answer) ⌝ }
+    ensures { λ r. ⌜ r ≡ number-of (answer-of answer) ⌝ }
 {
     match answer {
         SpreadAnswer::Refused(n) => n,

@@ -2,8 +2,11 @@
 ghost use mathlib.Core.Path.{_≡_};
 ghost use mathlib.Core.Bool.{true};
 ghost use Prim.Native.Nat.{_≤_};
-ghost use Rattle.supply.specs.Amounts.{THOUSAND, amount-right, flows-right, consumption-said, limited};
+ghost use Rattle.calendar.specs.Answers.{answer-of};
+ghost use Rattle.supply.specs.Amounts.{THOUSAND, amount-right, flows-right, limited};
 ghost use Rattle.supply.specs.NewConsumer.{of-year, of-day, new-consumption};
+use calendar::NumberAnswer;
+use numbers::ABOVE_LIMIT;
 
 // 10^9 kWh: the most of a reading, a flow, a month's consumption and a computed consumption.
 pub const LIMIT: u64 = 1000000000;
@@ -33,11 +36,6 @@ pub struct Flows {
     pub factor: u32,
 }
 
-pub enum ConsumptionAnswer {
-    Refused(u8),
-    Kwh(u64),
-}
-
 // Whether an amount is in its range, or missing.
 pub fn is_amount(amount: Amount) -> bool
     ensures { λ r. ⌜ r ≡ amount-right amount ⌝ }
@@ -49,13 +47,13 @@ pub fn is_amount(amount: Amount) -> bool
 }
 
 // A computed consumption, refused above the limit.
-pub fn limited_to(kwh: u64) -> ConsumptionAnswer
-    ensures { λ r. ⌜ consumption-said r ≡ limited kwh ⌝ }
+pub fn limited_to(kwh: u64) -> NumberAnswer
+    ensures { λ r. ⌜ answer-of r ≡ limited kwh ⌝ }
 {
     if LIMIT < kwh {
-        return ConsumptionAnswer::Refused(calendar::TOO_LARGE);
+        return NumberAnswer::Refused(ABOVE_LIMIT);
     }
-    ConsumptionAnswer::Kwh(kwh)
+    NumberAnswer::Given(kwh)
 }
 
 // Whether the contracted flows are in their ranges.

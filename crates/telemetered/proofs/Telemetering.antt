@@ -10,7 +10,8 @@ use Rattle.numbers.specs.Nearest.{nearest}
 use Rattle.numbers.specs.Sums.{pick}
 use Rattle.numbers.specs.Lists.{both, every, rising}
 use Rattle.numbers.proofs.Lists.{both-fst, both-snd}
-use Rattle.calendar.specs.Answers.{refused, given, NO-BASIS}
+use Rattle.numbers.specs.Refusals.{NO-BASIS}
+use Rattle.calendar.specs.Answers.{refused, given}
 use Rattle.calendar.specs.Days.{calendar-right}
 use Rattle.calendar.proofs.Holidays.{calendar-rising}
 use Rattle.supply.specs.Amounts.{amount-right, flows-right}

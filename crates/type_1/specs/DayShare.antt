@@ -4,7 +4,8 @@ use mathlib.Core.Path.{_≡_, refl}
 use Prim.Native.Nat.{ℕ, _-_, _*_}
 use Rattle.numbers.specs.Nearest.{nearest}
 use Rattle.numbers.specs.Sums.{pick}
-use Rattle.calendar.specs.Answers.{Answer, refused, given, tested, NO-BASIS}
+use Rattle.numbers.specs.Refusals.{NO-BASIS}
+use Rattle.calendar.specs.Answers.{Answer, refused, given, tested}
 use Rattle.temperature.specs.Temperature.{_over_, times, divided, rounded, MOST-DAYS}
 use Rattle.supply.specs.Amounts.{THOUSAND, limited}
 use Rattle.type_1.specs.declared.month_consumption.Basis.{Basis}

@@ -7,7 +7,8 @@ use lib.Dec.{leb, eqb}
 use lib.ListN.{length, replicate}
 use Rattle.numbers.specs.Sums.{pick}
 use Rattle.numbers.specs.Lists.{both, every, has}
-use Rattle.calendar.specs.Answers.{Answer, _when_, tested, OUT-OF-RANGE}
+use Rattle.numbers.specs.Refusals.{OUT-OF-RANGE}
+use Rattle.calendar.specs.Answers.{Answer, _when_, tested}
 use Rattle.calendar.specs.Days.{is-gas-day, calendar-right}
 use Rattle.calendar.specs.DayTypes.{is-working}
 use Rattle.months.specs.Months.{month-days, length-of, month-from, month-of, last-year-days}

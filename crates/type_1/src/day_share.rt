@@ -2,21 +2,22 @@
 ghost use mathlib.Core.Path.{_≡_};
 ghost use Prim.Native.Nat.{_≤_, _-_};
 ghost use Rattle.numbers.specs.Sums.{pick};
-ghost use Rattle.supply.specs.Amounts.{THOUSAND, consumption-said};
+ghost use Rattle.calendar.specs.Answers.{answer-of};
+ghost use Rattle.supply.specs.Amounts.{THOUSAND};
 ghost use Rattle.type_1.specs.MonthConsumption.{SmallBasis};
 ghost use Rattle.type_1.specs.DayShare.{day-of, part-of, MOST-DIVISOR};
-use calendar::NO_BASIS;
 use crate::month_consumption::Basis;
-use supply::ConsumptionAnswer;
+use calendar::NumberAnswer;
+use numbers::NO_BASIS;
 use supply::THOUSAND;
 
 // C_d: a part of C_m over a divisor, rounded once.
-pub fn day_of_month(basis: Basis, part: u64, divisor: u64) -> ConsumptionAnswer
+pub fn day_of_month(basis: Basis, part: u64, divisor: u64) -> NumberAnswer
     requires { ⌜ SmallBasis basis × (part ≤ THOUSAND) × (1 ≤ divisor) × (divisor ≤ MOST-DIVISOR) ⌝ }
-    ensures { λ r. ⌜ consumption-said r ≡ day-of basis part divisor ⌝ }
+    ensures { λ r. ⌜ answer-of r ≡ day-of basis part divisor ⌝ }
 {
     let Basis::OfMonth(m) = basis else {
-        return ConsumptionAnswer::Refused(NO_BASIS);
+        return NumberAnswer::Refused(NO_BASIS);
     };
     supply::limited_to(numbers::nearest(part * m.top, m.bottom * divisor))
 }

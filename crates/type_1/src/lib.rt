@@ -7,11 +7,12 @@ ghost use Prim.Native.Nat.{_≤_};
 ghost use lib.Dec.{leb};
 ghost use Rattle.numbers.specs.Lists.{both};
 ghost use Rattle.calendar.specs.Days.{LAST-DAY};
-ghost use Rattle.supply.specs.Amounts.{THOUSAND, MOST-C-c, amount-right, consumption-said};
+ghost use Rattle.calendar.specs.Answers.{answer-of};
+ghost use Rattle.supply.specs.Amounts.{THOUSAND, MOST-C-c, amount-right};
 ghost use Rattle.type_1.specs.Type1.{last-days-right, toll-34-right, toll-34, other-right, other-toll};
-use calendar::OUT_OF_RANGE;
+use calendar::NumberAnswer;
+use numbers::OUT_OF_RANGE;
 use supply::Amount;
-use supply::ConsumptionAnswer;
 use supply::THOUSAND;
 
 // The most of C_c, in ten-thousandths.
@@ -73,11 +74,11 @@ pub fn toll_34(
     last_days: &[u32],
     last_month: Amount,
     year_flow: Amount,
-) -> ConsumptionAnswer
-    ensures { λ r. ⌜ consumption-said r ≡ toll-34 day «last_year» g (now («last_days» .entry)) «last_month» «year_flow» ⌝ }
+) -> NumberAnswer
+    ensures { λ r. ⌜ answer-of r ≡ toll-34 day «last_year» g (now («last_days» .entry)) «last_month» «year_flow» ⌝ }
 {
     if !is_toll_34(day, last_year, g, last_days, last_month, year_flow) {
-        return ConsumptionAnswer::Refused(OUT_OF_RANGE);
+        return NumberAnswer::Refused(OUT_OF_RANGE);
     }
     let mean = temperature::mean_of(last_days);
     let correction = temperature::correction_of(g, mean);
@@ -131,8 +132,8 @@ pub fn other_toll(
     day_flow: Amount,
     f_c: u32,
     c_f: u32,
-) -> ConsumptionAnswer
-    ensures { λ r. ⌜ consumption-said r ≡ other-toll day (now (holidays .entry)) «last_year» «c_c» «last_month» «day_flow» «f_c» «c_f» ⌝ }
+) -> NumberAnswer
+    ensures { λ r. ⌜ answer-of r ≡ other-toll day (now (holidays .entry)) «last_year» «c_c» «last_month» «day_flow» «f_c» «c_f» ⌝ }
 {
     if !is_other_toll(
         day,
@@ -144,7 +145,7 @@ pub fn other_toll(
         f_c,
         c_f,
     ) {
-        return ConsumptionAnswer::Refused(OUT_OF_RANGE);
+        return NumberAnswer::Refused(OUT_OF_RANGE);
     }
     let month = months::month_of_day(day);
     let basis = month_consumption::month_of_other(

@@ -8,11 +8,10 @@ use lib.ListN.{replicate}
 use Rattle.numbers.specs.Nearest.{nearest}
 use Rattle.numbers.specs.Sums.{total}
 use Rattle.numbers.specs.Lists.{both, every}
-use Rattle.calendar.specs.Answers.{Answer, refused, given, _when_, tested, OUT-OF-RANGE, TOO-LARGE, NO-BASIS}
+use Rattle.numbers.specs.Refusals.{OUT-OF-RANGE, ABOVE-LIMIT, NO-BASIS}
+use Rattle.calendar.specs.Answers.{Answer, given, _when_, tested}
 use Rattle.temperature.specs.Temperature.{times, divided, rounded, FEWEST-DAYS, MOST-DAYS, is-degrees, mean, correction, C-temp2, winters-mean, winter-right, winters-right}
 use Rattle.supply.specs.Amounts.{limited}
-use Rattle.type_2.specs.declared.ProfileAnswer.{ProfileAnswer}
-use Rattle.type_2.specs.declared.ProfileAnswer.the-variants.{Refused, Wh}
 
 -- "Consumers 0 to 10,000,000"
 abbrev pub MOST-CONSUMERS : ℕ
@@ -38,7 +37,7 @@ unfoldable pub type-2 : ℕ → ℕ → ℕ → ℕ → List ℕ → List ℕ �
 type-2 consumers profile g k first second =
     tested
     ((OUT-OF-RANGE when not (type-2-right consumers profile g k first second))
-    ∷ (TOO-LARGE when ltb TRILLION (consumers * profile))
+    ∷ (ABOVE-LIMIT when ltb TRILLION (consumers * profile))
     ∷ [])
     (limited (rounded (divided (times (consumers * profile) (C-temp2 g k first second)) KILO)))
 
@@ -56,11 +55,6 @@ profile f1 f2 nc1 nc2 n1 n2 =
     ∷ (NO-BASIS when eqb (nc1 + nc2) 0)
     ∷ [])
     (given (nearest (KILO * (f1 + f2)) ((nc1 + nc2) * (n1 + n2))))
-
--- what the enum says, case by case
-abbrev pub profile-said : ProfileAnswer → Answer ℕ
-profile-said (Refused n) = refused n
-profile-said (Wh p) = given p
 
 -- the rounded answer is held to the limit: 1,000,000,000.0005 kWh is 10^9, and not too large
 at-the-limit : type-2 1 996884735203 161 1 (replicate 28 160) [] ≡ given 1000000000

@@ -1,18 +1,13 @@
 // Type 2 consumers: their consumption by a profile, and profiles.
 ghost use mathlib.Core.Path.{_≡_};
-ghost use Rattle.supply.specs.Amounts.{consumption-said};
-ghost use Rattle.type_2.specs.Type2.{type-2-right, type-2, year-right, profile, profile-said};
-use calendar::NO_BASIS;
-use calendar::OUT_OF_RANGE;
-use calendar::TOO_LARGE;
-use supply::ConsumptionAnswer;
+ghost use Rattle.calendar.specs.Answers.{answer-of};
+ghost use Rattle.type_2.specs.Type2.{type-2-right, type-2, year-right, profile};
+use calendar::NumberAnswer;
+use numbers::ABOVE_LIMIT;
+use numbers::NO_BASIS;
+use numbers::OUT_OF_RANGE;
 use temperature::FEWEST_DAYS;
 use temperature::MOST_DAYS;
-
-pub enum ProfileAnswer {
-    Refused(u8),
-    Wh(u64),
-}
 
 const MOST_CONSUMERS: u32 = 10000000;
 
@@ -53,15 +48,15 @@ pub fn type_2(
     winters: u8,
     first: &[u32],
     second: &[u32],
-) -> ConsumptionAnswer
-    ensures { λ r. ⌜ consumption-said r ≡ type-2 consumers profile g winters (now (first .entry)) (now (second .entry)) ⌝ }
+) -> NumberAnswer
+    ensures { λ r. ⌜ answer-of r ≡ type-2 consumers profile g winters (now (first .entry)) (now (second .entry)) ⌝ }
 {
     if !is_type_2(consumers, profile, g, winters, first, second) {
-        return ConsumptionAnswer::Refused(OUT_OF_RANGE);
+        return NumberAnswer::Refused(OUT_OF_RANGE);
     }
     let product = consumers as u64 * profile;
     if TRILLION < product {
-        return ConsumptionAnswer::Refused(TOO_LARGE);
+        return NumberAnswer::Refused(ABOVE_LIMIT);
     }
     let mean = temperature::mean_of_winters(winters, first, second);
     let correction = temperature::correction_of(g, mean);
@@ -85,19 +80,19 @@ fn is_year(consumption: u64, consumers: u32, days: u32) -> bool
 }
 
 // The profile of a month: its consumption, consumers and days in two years.
-pub fn profile(f1: u64, f2: u64, nc1: u32, nc2: u32, n1: u32, n2: u32) -> ProfileAnswer
-    ensures { λ r. ⌜ profile-said r ≡ profile f1 f2 nc1 nc2 n1 n2 ⌝ }
+pub fn profile(f1: u64, f2: u64, nc1: u32, nc2: u32, n1: u32, n2: u32) -> NumberAnswer
+    ensures { λ r. ⌜ answer-of r ≡ profile f1 f2 nc1 nc2 n1 n2 ⌝ }
 {
     if !is_year(f1, nc1, n1) {
-        return ProfileAnswer::Refused(OUT_OF_RANGE);
+        return NumberAnswer::Refused(OUT_OF_RANGE);
     }
     if !is_year(f2, nc2, n2) {
-        return ProfileAnswer::Refused(OUT_OF_RANGE);
+        return NumberAnswer::Refused(OUT_OF_RANGE);
     }
     let consumers = nc1 as u64 + nc2 as u64;
     if consumers == 0 {
-        return ProfileAnswer::Refused(NO_BASIS);
+        return NumberAnswer::Refused(NO_BASIS);
     }
     let days = n1 as u64 + n2 as u64;
-    ProfileAnswer::Wh(numbers::nearest(KILO * (f1 + f2), consumers * days))
+    NumberAnswer::Given(numbers::nearest(KILO * (f1 + f2), consumers * days))
 }
