@@ -69,12 +69,12 @@ fn take_flows(s: &[u8], from: Cursor) -> TakenFlows {
     let of_day = input::take_optional(s, of_year.next);
     let factor = input::take_word(s, of_day.next);
     let toll = toll(kind.value);
-    let year = of_year.amount;
-    let day = of_day.amount;
+    let yearly = of_year.amount;
+    let daily = of_day.amount;
     let flows = Flows {
         toll,
-        year,
-        day,
+        yearly,
+        daily,
         factor: factor.value,
     };
     let next = factor.next;

@@ -123,7 +123,7 @@ entry r = record { reading = r }
 
 -- Q_a, no Q_d, f_c 750
 abbrev pub flows : Toll → Amount → Flows
-flows toll Q-a = record { toll = toll; year = Q-a; day = Missing; factor = 750 }
+flows toll Q-a = record { toll = toll; yearly = Q-a; daily = Missing; factor = 750 }
 
 -- ---- the list
 

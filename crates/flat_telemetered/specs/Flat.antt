@@ -36,5 +36,5 @@ unfoldable pub flat-telemetered : ℕ → List ℕ → List ℕ → List ℕ →
 flat-telemetered d hs tags values flow factor =
     pick (eqb (length tags) (length values))
     (as-number
-    (telemetered d hs Missing NotSent (record { toll = OtherToll; year = Missing; day = Known flow; factor = factor }) (length tags) (entries-of tags values)))
+    (telemetered d hs Missing NotSent (record { toll = OtherToll; yearly = Missing; daily = Known flow; factor = factor }) (length tags) (entries-of tags values)))
     (LIMIT + OUT-OF-RANGE)

@@ -87,8 +87,8 @@ pub extern "C" fn seatpomelo_telemetered(
     let history = history_for(tags, values);
     let flows = Flows {
         toll: Toll::OtherToll,
-        year: Amount::Missing,
-        day: Amount::Known(day_flow),
+        yearly: Amount::Missing,
+        daily: Amount::Known(day_flow),
         factor,
     };
     let answer = telemetered::telemetered(

@@ -18,7 +18,7 @@ use Rattle.numbers.proofs.Lists.{true≢false}
 use Rattle.calendar.specs.DayTypes.{day-type, same-type}
 use Rattle.calendar.specs.declared.DayType.{DayType}
 use Rattle.supply.specs.Amounts.{LIMIT}
-use Rattle.history.specs.History.{MATCHES, Dated, Metered, reading-right, dated, metered, real-readings, matching, last-three, sum-of, looked-at, is-empty, is-new}
+use Rattle.history.specs.History.{MATCHES, Dated, RealReading, reading-right, dated, real-of, real-readings, matching, last-three, sum-of, looked-at, is-empty, is-new}
 use Rattle.history.specs.Search.{found-in, hit-of}
 use Rattle.history.specs.declared.Reading.{Reading}
 use Rattle.history.specs.declared.Reading.the-variants.{Nothing, Real, Estimated, Own}
@@ -28,7 +28,7 @@ use Rattle.history.specs.declared.Found.{Found}
 use Rattle.history.proofs.Hits.{hit-none, hit-match, hit-other}
 
 -- the day of the last of some readings
-last-day : ℕ → List Metered → ℕ
+last-day : ℕ → List RealReading → ℕ
 last-day x [] = x
 last-day x (m ∷ ms) = last-day (m .day) ms
 
@@ -55,7 +55,7 @@ module _ (hs : List ℕ) (d n : ℕ) where
   t = day-type hs d
 
   -- what is found: the matches before, and those of a list after them, on days before x
-  made : ℕ → ℕ → Bool → ℕ → List Metered → Found
+  made : ℕ → ℕ → Bool → ℕ → List RealReading → Found
   made sum matches real x ms = record {
     sum = sum + sum-of ms;
     matches = matches + length ms;
@@ -64,12 +64,12 @@ module _ (hs : List ℕ) (d n : ℕ) where
   }
 
   -- the same, given the real readings from place i on
-  pub whole : ℕ → ℕ → Bool → ℕ → List Metered → Found
+  pub whole : ℕ → ℕ → Bool → ℕ → List RealReading → Found
   whole sum matches real i rs = made sum matches (either real (not (is-empty rs))) (d - i) (take (MATCHES - matches) (matching hs t rs))
 
   -- ---- the start
 
-  third-last : (x : ℕ) (ms : List Metered) → length ms ≡ MATCHES → last-day x ms ≡ getD ms (MATCHES - 1) (record { day = 0; value = 0 }) .day
+  third-last : (x : ℕ) (ms : List RealReading) → length ms ≡ MATCHES → last-day x ms ≡ getD ms (MATCHES - 1) (record { day = 0; value = 0 }) .day
   unfolding last-day
   third-last x [] e = absurd (omega arith)
   third-last x (a ∷ []) e = absurd (omega arith)
@@ -77,7 +77,7 @@ module _ (hs : List ℕ) (d n : ℕ) where
   third-last x (a ∷ (b ∷ (c ∷ []))) e = refl
   third-last x (a ∷ (b ∷ (c ∷ (g ∷ ms)))) e = absurd (omega arith)
 
-  looked-first : (x : ℕ) (ms : List Metered) → pick (eqb (0 + length ms) MATCHES) (d - last-day x ms) n ≡ looked-at d n ms
+  looked-first : (x : ℕ) (ms : List RealReading) → pick (eqb (0 + length ms) MATCHES) (d - last-day x ms) n ≡ looked-at d n ms
   unfolding looked-at
   looked-first x ms = let z : 0 + length ms ≡ length ms = omega arith in rw z (go (eqb (length ms) MATCHES) refl)
     where
@@ -96,12 +96,12 @@ module _ (hs : List ℕ) (d n : ℕ) where
   -- ---- one entry
 
   -- the days before which matches are looked for play no part if more matches are wanted
-  made-idle : (sum matches : ℕ) (real : Bool) (x y : ℕ) → matches < MATCHES → (ms : List Metered) → made sum matches real x ms ≡ made sum matches real y ms
+  made-idle : (sum matches : ℕ) (real : Bool) (x y : ℕ) → matches < MATCHES → (ms : List RealReading) → made sum matches real x ms ≡ made sum matches real y ms
   unfolding made last-day
   made-idle sum matches real x y few [] = rw (ne-eqb (matches + 0) MATCHES (λ e. omega arith))
   made-idle sum matches real x y few (m ∷ ms) = refl
 
-  made-match : (sum matches : ℕ) (real : Bool) (x : ℕ) (m : Metered) (ms : List Metered) → made sum matches real x (m ∷ ms) ≡ made (sum + m .value) (matches + 1) real (m .day) ms
+  made-match : (sum matches : ℕ) (real : Bool) (x : ℕ) (m : RealReading) (ms : List RealReading) → made sum matches real x (m ∷ ms) ≡ made (sum + m .value) (matches + 1) real (m .day) ms
   unfolding made last-day sum-of total
   made-match sum matches real x m ms =
       let a : sum + (m .value + sum-of ms) ≡ sum + m .value + sum-of ms = omega arith in
@@ -115,7 +115,7 @@ module _ (hs : List ℕ) (d n : ℕ) where
       let b : matches + 0 ≡ matches = omega arith in
       rw (a, b) (ap (λ l. record { sum = sum; matches = matches; looked = l; real = real }) e)
 
-  module _ (sum matches : ℕ) (real : Bool) (i : ℕ) (few : matches < MATCHES) (rs : List Metered) where
+  module _ (sum matches : ℕ) (real : Bool) (i : ℕ) (few : matches < MATCHES) (rs : List RealReading) where
     -- an entry that is not real adds nothing
     idle : whole sum matches real i rs ≡ whole (sum + 0) (matches + 0) (either real false) (i + 1) rs
     unfolding whole
@@ -124,7 +124,7 @@ module _ (hs : List ℕ) (d n : ℕ) where
         let y : sum + 0 ≡ sum = omega arith in
         rw (z, y, either-false real) (made-idle sum matches _ (d - i) (d - (i + 1)) few _)
 
-    module _ (m : Metered) (here : m .day ≡ d - (i + 1)) where
+    module _ (m : RealReading) (here : m .day ≡ d - (i + 1)) where
       -- a real reading on a day of another type
       other : same-type (day-type hs (m .day)) t ≡ false → whole sum matches real i (m ∷ rs) ≡ whole (sum + 0) (matches + 0) (either real true) (i + 1) rs
       unfolding whole matching
@@ -142,15 +142,15 @@ module _ (hs : List ℕ) (d n : ℕ) where
 
   -- ---- any entry
 
-  step : (sum matches : ℕ) (real : Bool) (i : ℕ) → matches < MATCHES → (rs : List Metered) (r : Reading)
+  step : (sum matches : ℕ) (real : Bool) (i : ℕ) → matches < MATCHES → (rs : List RealReading) (r : Reading)
       → let h = hit-of hs t (d - (i + 1)) r in
-      whole sum matches real i (metered (d - (i + 1)) r ++ rs) ≡ whole (sum + h .value) (matches + h .matches) (either real (h .real)) (i + 1) rs
+      whole sum matches real i (real-of (d - (i + 1)) r ++ rs) ≡ whole (sum + h .value) (matches + h .matches) (either real (h .real)) (i + 1) rs
   step sum matches real i few rs Nothing = rw (← hit-none hs t (d - (i + 1)) Nothing refl) (idle sum matches real i few rs)
   step sum matches real i few rs (Estimated v) = rw (← hit-none hs t (d - (i + 1)) (Estimated v) refl) (idle sum matches real i few rs)
   step sum matches real i few rs (Own v) = rw (← hit-none hs t (d - (i + 1)) (Own v) refl) (idle sum matches real i few rs)
   step sum matches real i few rs (Real v) = ⊎-elim yes-match no-match (cases (same-type (day-type hs (d - (i + 1))) t))
     where
-      m : Metered
+      m : RealReading
       m = record { day = d - (i + 1); value = v }
 
       yes-match : same-type (day-type hs (d - (i + 1))) t ≡ true → whole sum matches real i (m ∷ rs) ≡ whole (sum + hit-of hs t (d - (i + 1)) (Real v) .value) (matches + hit-of hs t (d - (i + 1)) (Real v) .matches) (either real (hit-of hs t (d - (i + 1)) (Real v) .real)) (i + 1) rs
@@ -162,10 +162,10 @@ module _ (hs : List ℕ) (d n : ℕ) where
   -- ---- the loop
 
   module _ (es : List Entry) where
-    pub reals-from : ℕ → List Metered
+    pub reals-from : ℕ → List RealReading
     reals-from i = real-readings (dated (d - i) (drop i es))
 
-    reals-next : (i : ℕ) (e₀ : Entry) → i < length es → reals-from i ≡ metered (d - (i + 1)) (getD es i e₀ .reading) ++ reals-from (i + 1)
+    reals-next : (i : ℕ) (e₀ : Entry) → i < length es → reals-from i ≡ real-of (d - (i + 1)) (getD es i e₀ .reading) ++ reals-from (i + 1)
     unfolding reals-from dated real-readings
     reals-next i e₀ l =
         let z : d - i - 1 ≡ d - (i + 1) = omega arith in

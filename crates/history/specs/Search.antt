@@ -4,7 +4,7 @@ use mathlib.Core.List.{List}
 use Prim.Native.Nat.{ℕ}
 use lib.ListN.{length}
 use Rattle.calendar.specs.declared.DayType.{DayType}
-use Rattle.history.specs.History.{Dated, metered, matching, last-three, sum-of, looked-at, is-empty, is-new}
+use Rattle.history.specs.History.{Dated, real-of, matching, last-three, sum-of, looked-at, is-empty, is-new}
 use Rattle.history.specs.declared.Reading.{Reading}
 use Rattle.history.specs.declared.Found.{Found}
 use Rattle.history.specs.declared.Hit.{Hit}
@@ -18,5 +18,5 @@ found-in hs d n xs =
 -- what one entry adds to it
 unfoldable pub hit-of : List ℕ → DayType → ℕ → Reading → Hit
 hit-of hs t d r =
-    let ms = matching hs t (metered d r) in
-    record { value = sum-of ms; matches = length ms; real = not (is-empty (metered d r)) }
+    let ms = matching hs t (real-of d r) in
+    record { value = sum-of ms; matches = length ms; real = not (is-empty (real-of d r)) }

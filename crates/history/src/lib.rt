@@ -3,9 +3,7 @@ ghost use mathlib.Core.Path.{_≡_};
 ghost use mathlib.Core.Bool.{true};
 ghost use Prim.Native.Nat.{_≤_};
 ghost use lib.ListN.{take};
-ghost use Rattle.numbers.specs.Sums.{pick};
 ghost use Rattle.numbers.specs.Lists.{every, rising};
-ghost use Rattle.supply.specs.declared.Amount.the-variants.{Missing, Known};
 ghost use Rattle.history.specs.History.{ENTRIES, reading-right, value-of, entry-right, history-right, real-value, dated};
 ghost use Rattle.history.specs.Search.{hit-of, found-in};
 use calendar::DayType;
@@ -95,25 +93,15 @@ pub fn is_history(day: u32, history: [Entry; ENTRIES], count: usize) -> bool
     are_entries(history, count)
 }
 
-// A value that counts, or none.
-fn known_if(counts: bool, value: u64) -> Amount
-    ensures { λ r. ⌜ r ≡ pick counts (Known value) Missing ⌝ }
-{
-    if counts {
-        return Amount::Known(value);
-    }
-    Amount::Missing
-}
-
 // The value of a real reading: no other counts.
 fn real_value(reading: Reading) -> Amount
     ensures { λ r. ⌜ r ≡ real-value reading ⌝ }
 {
     match reading {
         Reading::Nothing => Amount::Missing,
-        Reading::Real(v) => known_if(true, v),
-        Reading::Estimated(v) => known_if(false, v),
-        Reading::Own(v) => known_if(false, v),
+        Reading::Real(v) => Amount::Known(v),
+        Reading::Estimated(_) => Amount::Missing,
+        Reading::Own(_) => Amount::Missing,
     }
 }
 

@@ -13,7 +13,7 @@ use numbers::OUT_OF_RANGE;
 // The year of day 0.
 const FIRST_YEAR: u32 = 2016;
 
-const YEAR_MONTHS: u32 = 12;
+const MONTHS_OF_A_YEAR: u32 = 12;
 
 // Four years, one of them a leap year.
 const CYCLE_DAYS: u32 = 1461;
@@ -53,7 +53,7 @@ fn length_of(n: u32) -> u32
     requires { ⌜ n < MONTHS ⌝ }
     ensures { λ r. ⌜ r ≡ length-of n ⌝ }
 {
-    days_of_month(FIRST_YEAR + n / YEAR_MONTHS, 1 + n % YEAR_MONTHS)
+    days_of_month(FIRST_YEAR + n / MONTHS_OF_A_YEAR, 1 + n % MONTHS_OF_A_YEAR)
 }
 
 // The month of a gas day: whole cycles of four years, then month by month.
@@ -71,8 +71,8 @@ pub fn month_of_day(day: u32) -> Month
         days = length_of(n);
     }
     Month {
-        year: FIRST_YEAR + n / YEAR_MONTHS,
-        number: 1 + n % YEAR_MONTHS,
+        year: FIRST_YEAR + n / MONTHS_OF_A_YEAR,
+        number: 1 + n % MONTHS_OF_A_YEAR,
         first,
         days,
     }

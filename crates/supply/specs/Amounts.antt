@@ -34,7 +34,7 @@ MOST-C-c = 30000
 
 -- Q_a, Q_d and f_c
 unfoldable pub flows-right : Flows → Bool
-flows-right f = both (amount-right (f .year)) (both (amount-right (f .day)) (leb (f .factor) THOUSAND))
+flows-right f = both (amount-right (f .yearly)) (both (amount-right (f .daily)) (leb (f .factor) THOUSAND))
 
 -- a computed consumption: refused above the limit, by its rounded value
 unfoldable pub limited : ℕ → Answer ℕ

@@ -1,5 +1,6 @@
 -- Document 01, "Type 1": C_m, a month's consumption. Assumes nothing.
 use Prim.Native.Nat.{ℕ, _*_, _≤_}
+use Rattle.months.specs.Months.{MONTHS-OF-A-YEAR}
 use Rattle.temperature.specs.Temperature.{_over_, times}
 use Rattle.temperature.specs.declared.Fraction.{Fraction}
 use Rattle.supply.specs.Amounts.{THOUSAND, TEN-THOUSAND}
@@ -10,15 +11,11 @@ use Rattle.type_1.specs.declared.month_consumption.Basis.the-variants.{N
 
 -- C_m, the consumption of the gas day's month, is an exact fraction or has no basis
 
--- the months that Q_a is divided by
-abbrev pub YEAR : ℕ
-YEAR = 12
-
 -- "the same month last year, .. (toll 3.4: times C_temp1); if missing, the last month, uncorrected; if missing, Q_a / 12 (toll 3.4)"
 unfoldable pub month-34 : Amount → Fraction → Amount → Amount → Basis
 month-34 (Known v) c last q = OfMonth (times v c)
 month-34 Missing c (Known v) q = OfMonth (v over 1)
-month-34 Missing c Missing (Known q) = OfMonth (q over YEAR)
+month-34 Missing c Missing (Known q) = OfMonth (q over MONTHS-OF-A-YEAR)
 month-34 Missing c Missing Missing = NoBasis
 
 -- other tolls: "the same month last year, times C_c ..; if missing, the last month, uncorrected; if missing, .. Q_d × f_c × N"

@@ -16,7 +16,7 @@ pub enum Basis {
 }
 
 // The months that a yearly flow is divided by.
-const YEAR: u64 = 12;
+const MONTHS_OF_A_YEAR: u64 = 12;
 
 // The parts of C_c.
 const TEN_THOUSAND: u64 = 10000;
@@ -43,7 +43,7 @@ pub fn month_of_34(
     if let Amount::Known(q) = year_flow {
         return Basis::OfMonth(Fraction {
             top: q,
-            bottom: YEAR,
+            bottom: MONTHS_OF_A_YEAR,
         });
     }
     Basis::NoBasis

@@ -17,9 +17,17 @@ use Rattle.supply.specs.Amounts.{limited}
 abbrev pub MOST-CONSUMERS : ℕ
 MOST-CONSUMERS = 10000000
 
--- 10^12: the most of a profile in Wh, of consumers times profile, and of a month's consumption
-abbrev pub TRILLION : ℕ
-TRILLION = 1000000000000
+-- "profile 0 to 10^12 Wh"
+abbrev pub MOST-PROFILE : ℕ
+MOST-PROFILE = 1000000000000
+
+-- "consumers times profile at most 10^12"
+abbrev pub MOST-PRODUCT : ℕ
+MOST-PRODUCT = 1000000000000
+
+-- "F month consumption 0 to 10^12"
+abbrev pub MOST-MONTH : ℕ
+MOST-MONTH = 1000000000000
 
 -- the Wh of a kWh
 abbrev pub KILO : ℕ
@@ -30,14 +38,14 @@ KILO = 1000
 unfoldable pub type-2-right : ℕ → ℕ → ℕ → ℕ → List ℕ → List ℕ → Bool
 type-2-right consumers profile g k first second =
     both (leb consumers MOST-CONSUMERS)
-    (both (leb profile TRILLION) (both (is-degrees g) (winters-right k first second)))
+    (both (leb profile MOST-PROFILE) (both (is-degrees g) (winters-right k first second)))
 
 -- "Consumers × profile × C_temp2 / 1,000, in kWh .. consumers times profile at most 10^12, else 6"
 unfoldable pub type-2 : ℕ → ℕ → ℕ → ℕ → List ℕ → List ℕ → Answer ℕ
 type-2 consumers profile g k first second =
     tested
     ((OUT-OF-RANGE when not (type-2-right consumers profile g k first second))
-    ∷ (ABOVE-LIMIT when ltb TRILLION (consumers * profile))
+    ∷ (ABOVE-LIMIT when ltb MOST-PRODUCT (consumers * profile))
     ∷ [])
     (limited (rounded (divided (times (consumers * profile) (C-temp2 g k first second)) KILO)))
 
@@ -45,7 +53,7 @@ type-2 consumers profile g k first second =
 
 -- "F month consumption 0 to 10^12, NC consumers 0 to 10,000,000, N days 28 to 31": one year's figures
 unfoldable pub year-right : ℕ → ℕ → ℕ → Bool
-year-right f nc n = both (leb f TRILLION) (both (leb nc MOST-CONSUMERS) (both (leb FEWEST-DAYS n) (leb n MOST-DAYS)))
+year-right f nc n = both (leb f MOST-MONTH) (both (leb nc MOST-CONSUMERS) (both (leb FEWEST-DAYS n) (leb n MOST-DAYS)))
 
 -- "nearest of 1,000 × (F1 + F2) / ((NC1 + NC2) × (N1 + N2)) .. no consumers gives 15"
 unfoldable pub profile : ℕ → ℕ → ℕ → ℕ → ℕ → ℕ → Answer ℕ
@@ -62,6 +70,6 @@ unfolding type-2 type-2-right winters-right winter-right every winters-mean corr
 at-the-limit = refl
 
 -- the largest profile
-largest : profile TRILLION TRILLION 1 0 28 28 ≡ given 35714285714286
+largest : profile MOST-MONTH MOST-MONTH 1 0 28 28 ≡ given 35714285714286
 unfolding profile year-right tested nearest
 largest = refl

@@ -11,8 +11,13 @@ use temperature::MOST_DAYS;
 
 const MOST_CONSUMERS: u32 = 10000000;
 
-// 10^12: the most of a profile in Wh, of consumers times profile, and of a month's consumption.
-const TRILLION: u64 = 1000000000000;
+// The most Wh of a profile, and of consumers times profile.
+const MOST_PROFILE: u64 = 1000000000000;
+
+const MOST_PRODUCT: u64 = 1000000000000;
+
+// The most of a month's consumption that a profile is made of.
+const MOST_MONTH: u64 = 1000000000000;
 
 // The Wh of a kWh.
 const KILO: u64 = 1000;
@@ -31,7 +36,7 @@ fn is_type_2(
     if MOST_CONSUMERS < consumers {
         return false;
     }
-    if TRILLION < profile {
+    if MOST_PROFILE < profile {
         return false;
     }
     if !temperature::are_degrees(g) {
@@ -55,7 +60,7 @@ pub fn type_2(
         return NumberAnswer::Refused(OUT_OF_RANGE);
     }
     let product = consumers as u64 * profile;
-    if TRILLION < product {
+    if MOST_PRODUCT < product {
         return NumberAnswer::Refused(ABOVE_LIMIT);
     }
     let mean = temperature::mean_of_winters(winters, first, second);
@@ -67,7 +72,7 @@ pub fn type_2(
 fn is_year(consumption: u64, consumers: u32, days: u32) -> bool
     ensures { λ r. ⌜ r ≡ year-right consumption consumers days ⌝ }
 {
-    if TRILLION < consumption {
+    if MOST_MONTH < consumption {
         return false;
     }
     if MOST_CONSUMERS < consumers {

@@ -1,4 +1,4 @@
--- `day_types::day_type` meets its contract. A refusal by the test, and else the type. Assumes nothing.
+-- `calendar::day_type` meets its contract. A refusal by the test, and else the type. Assumes nothing.
 use mathlib.Core.Path.{sym, ap, _∙_}
 use borrow.Author.Tests.{not-true, not-false}
 use borrow.Author.Needs.{needs}

@@ -1,4 +1,4 @@
--- `day_types::type_of_day` meets its contract. Each return is a case of the definition. Assumes nothing.
+-- `calendar::type_of_day` meets its contract. Each return is a case of the definition. Assumes nothing.
 use mathlib.Core.Path.{sym, _∙_}
 use Prim.Native.Nat.{_%_}
 use borrow.Author.Tests.{eq-eqb, ne-eqb}

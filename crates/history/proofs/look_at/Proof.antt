@@ -1,4 +1,4 @@
--- `last_readings::look_at` meets its contract. An entry that is not real, one that matches, and one on a day of another type. Assumes nothing.
+-- `history::look_at` meets its contract. An entry that is not real, one that matches, and one on a day of another type. Assumes nothing.
 use mathlib.Core.Path.{sym, ap, _∙_}
 use borrow.Author.Needs.{needs}
 use Rattle.calendar.specs.DayTypes.{same-type}

@@ -1,4 +1,4 @@
--- `last_readings::search` meets its contract. What is found before place `i`, and what the rest of the history adds, make what there is to find. Assumes nothing.
+-- `history::search` meets its contract. What is found before place `i`, and what the rest of the history adds, make what there is to find. Assumes nothing.
 use mathlib.Core.Path.{ap₂, _≡_, sym, _∙_}
 use mathlib.Core.List.{List}
 use mathlib.Core.Bool.{true}

@@ -1,4 +1,4 @@
--- `working_days::mask_of_month` meets its contract. The mask of the days passed; each day's bit is shifted to its place. Assumes nothing.
+-- `months::mask_of_month` meets its contract. The mask of the days passed; each day's bit is shifted to its place. Assumes nothing.
 use mathlib.Core.Bool.{Bool}
 use mathlib.Core.Path.{_≡_}
 use Prim.Native.Nat.{ℕ, _+_, _-_, _≤_}

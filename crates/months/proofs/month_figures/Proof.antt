@@ -1,4 +1,4 @@
--- `working_days::month_figures` meets its contract. A refusal by the test, and else the figures of the month. Assumes nothing.
+-- `months::month_figures` meets its contract. A refusal by the test, and else the figures of the month. Assumes nothing.
 use mathlib.Core.Bool.{true}
 use mathlib.Core.Path.{_≡_, sym, _∙_}
 use native.Mathlib.Omega.{arith}

@@ -1,4 +1,4 @@
--- `working_days::working_bit` meets its contract. A bit is 1 just where the type is that of a working day. Assumes nothing.
+-- `months::working_bit` meets its contract. A bit is 1 just where the type is that of a working day. Assumes nothing.
 use mathlib.Core.Path.{sym, ap, _∙_}
 use borrow.Author.Needs.{needs}
 use Rattle.numbers.specs.Sums.{bit}

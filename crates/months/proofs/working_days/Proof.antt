@@ -1,4 +1,4 @@
--- `working_days::working_days` meets its contract. The ones of the mask are counted. Assumes nothing.
+-- `months::working_days` meets its contract. The ones of the mask are counted. Assumes nothing.
 use mathlib.Core.Path.{ap, _∙_}
 use lib.Count.{ones}
 use borrow.Author.Needs.{needs}

@@ -1,4 +1,4 @@
--- `period::is_in_range` meets its contract: the tests in order. Assumes nothing.
+-- `spread::is_in_range` meets its contract: the tests in order. Assumes nothing.
 use native.Mathlib.Omega.{arith}
 use Rattle.spread.proofs.Ranges.{too-large, no-day, too-many, by-weights}
 use borrow.Author.Needs.{needs}

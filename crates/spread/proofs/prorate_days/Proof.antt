@@ -1,4 +1,4 @@
--- `day_parts::prorate_days` meets its contract. Assumes nothing.
+-- `spread::prorate_days` meets its contract. Assumes nothing.
 use mathlib.Core.Path.{_≡_}
 use mathlib.Core.List.{List, map, _++_}
 use Prim.Native.Nat.{ℕ}

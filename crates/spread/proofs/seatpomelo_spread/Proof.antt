@@ -1,4 +1,4 @@
--- `reading::seatpomelo_spread` meets its contract. Assumes nothing.
+-- `spread::seatpomelo_spread` meets its contract. Assumes nothing.
 use mathlib.Core.Path.{ap, _∙_}
 use Rattle.spread.specs.Spread.{Outcome, number-of}
 use borrow.Author.Needs.{needs}

@@ -1,4 +1,4 @@
--- `reading::spread` meets its contract: each way out is one of the outcomes. Assumes nothing.
+-- `spread::spread` meets its contract: each way out is one of the outcomes. Assumes nothing.
 use mathlib.Core.Path.{sym, ap, _∙_}
 use native.Mathlib.Omega.{arith}
 use borrow.Author.Tests.{not-true, not-false}

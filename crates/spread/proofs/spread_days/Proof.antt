@@ -1,4 +1,4 @@
--- `day_parts::spread_days` meets its contract. Assumes nothing.
+-- `spread::spread_days` meets its contract. Assumes nothing.
 use mathlib.Core.Path.{sym}
 use native.Mathlib.Omega.{arith}
 use Rattle.spread.proofs.Ranges.{in-range-facts}

@@ -1,4 +1,4 @@
--- `period::write_days` meets its contract. Assumes nothing.
+-- `spread::write_days` meets its contract. Assumes nothing.
 use mathlib.Core.Path.{_≡_, ap, _∙_}
 use Rattle.numbers.specs.Sums.{table}
 use Prim.Native.Nat.{suc, _-_, _≤_}

@@ -1,4 +1,4 @@
--- `winters::are_all_degrees` meets its contract. The rest of the list from the place reached is in range just where the whole list is. Assumes nothing.
+-- `temperature::are_all_degrees` meets its contract. The rest of the list from the place reached is in range just where the whole list is. Assumes nothing.
 use mathlib.Core.Path.{_≡_, refl, sym, _∙_}
 use Prim.Native.Nat.{_-_, _≤_}
 use native.Mathlib.Omega.{arith}

@@ -1,4 +1,4 @@
--- `winters::are_winters` meets its contract. Each return is a case of the definition. Assumes nothing.
+-- `temperature::are_winters` meets its contract. Each return is a case of the definition. Assumes nothing.
 use mathlib.Core.Path.{sym, _∙_}
 use borrow.Author.Tests.{eq-eqb, ne-eqb, not-true, not-false}
 use borrow.Author.Needs.{needs}

@@ -1,4 +1,4 @@
--- `coefficients::average_of` meets its contract. The products are small. Assumes nothing.
+-- `temperature::average_of` meets its contract. The products are small. Assumes nothing.
 use mathlib.Core.Path.{refl}
 use native.Mathlib.Omega.{arith}
 use Rattle.temperature.proofs.Fractions.{cross, bottoms}

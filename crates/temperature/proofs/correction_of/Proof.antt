@@ -1,4 +1,4 @@
--- `coefficients::correction_of` meets its contract. The products are small. Assumes nothing.
+-- `temperature::correction_of` meets its contract. The products are small. Assumes nothing.
 use mathlib.Core.Path.{refl}
 use Prim.Native.Nat.{_+_, _≤_}
 use native.Mathlib.Nat.{mul-le-mul}

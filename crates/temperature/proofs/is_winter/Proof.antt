@@ -1,4 +1,4 @@
--- `winters::is_winter` meets its contract. The three tests are the definition's. Assumes nothing.
+-- `temperature::is_winter` meets its contract. The three tests are the definition's. Assumes nothing.
 use native.Mathlib.Omega.{arith}
 use lib.ListN.{length}
 use borrow.Author.Tests.{le-leb, lt-leb}

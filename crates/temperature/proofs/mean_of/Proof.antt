@@ -1,4 +1,4 @@
--- `winters::mean_of` meets its contract. The sum over the number of days. Assumes nothing.
+-- `temperature::mean_of` meets its contract. The sum over the number of days. Assumes nothing.
 use mathlib.Core.Path.{ap}
 use lib.ListN.{length}
 use borrow.Author.Needs.{needs}

@@ -1,4 +1,4 @@
--- `winters::mean_of_winters` meets its contract. One winter's mean, or the average of two. Assumes nothing.
+-- `temperature::mean_of_winters` meets its contract. One winter's mean, or the average of two. Assumes nothing.
 use mathlib.Core.Path.{ap₂, _∙_}
 use borrow.Author.Tests.{eq-eqb, ne-eqb}
 use Rattle.temperature.specs.Temperature.{sum, divided, winters-mean}

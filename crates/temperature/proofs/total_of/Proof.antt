@@ -1,4 +1,4 @@
--- `winters::total_of` meets its contract. The sum so far and the rest of the list make the sum of the list. Assumes nothing.
+-- `temperature::total_of` meets its contract. The sum so far and the rest of the list make the sum of the list. Assumes nothing.
 use mathlib.Core.Path.{_≡_}
 use Prim.Native.Nat.{_+_, _-_, _≤_}
 use native.Mathlib.Omega.{arith}

@@ -1,4 +1,4 @@
--- `day_share::day_of_month` meets its contract. The products are small, and the divisor is above 0. Assumes nothing.
+-- `type_1::day_share::day_of_month` meets its contract. The products are small, and the divisor is above 0. Assumes nothing.
 use mathlib.Core.Path.{ap, subst, _∙_}
 use native.Mathlib.Nat.{mul-le-mul, mul-pos}
 use native.Mathlib.Omega.{arith}

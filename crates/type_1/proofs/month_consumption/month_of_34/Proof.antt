@@ -1,4 +1,4 @@
--- `month_consumption::month_of_34` meets its contract. Each return is a case of the definition; the product is small. Assumes nothing.
+-- `type_1::month_consumption::month_of_34` meets its contract. Each return is a case of the definition; the product is small. Assumes nothing.
 use mathlib.Core.Path.{refl, sym, ap, ap₂}
 use native.Mathlib.Nat.{mul-le-mul}
 use native.Mathlib.Omega.{arith}

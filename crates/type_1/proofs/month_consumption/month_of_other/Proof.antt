@@ -1,4 +1,4 @@
--- `month_consumption::month_of_other` meets its contract. Each return is a case of the definition; the products are small. Assumes nothing.
+-- `type_1::month_consumption::month_of_other` meets its contract. Each return is a case of the definition; the products are small. Assumes nothing.
 use mathlib.Core.Path.{refl}
 use native.Mathlib.Nat.{mul-le-mul}
 use native.Mathlib.Omega.{arith}
