@@ -34,7 +34,7 @@ uint8_t seatpomelo_inventory(int64_t *day, size_t numbers, int64_t *out, size_t 
 /* ---- Crate day_report: the length of the report's text in `out`; 0, and nothing written, if `out` has less than 8,192 bytes. */
 size_t seatpomelo_day_report(const uint8_t *file, size_t bytes, uint8_t *out, size_t room);
 
-/* ---- Crate reading: 0, or the number of the refusal; a share for each day in `out`. */
+/* ---- Crate spread: 0, or the number of the refusal; a share for each day in `out`. */
 uint8_t seatpomelo_spread(uint64_t reading, const int64_t *weights, size_t days, int64_t *out, size_t room);
 
 /* ---- Crate flat_telemetered: a point of another toll without reading and own value. Tags: 0 nothing, 1 real, 2 estimated, 3 own. Its

@@ -3,6 +3,8 @@ use mathlib.Core.List.{List}
 use Prim.Native.Nat.{ℕ}
 pub use Rattle.numbers.specs.Refusals.{Test, _when_, Verdict, refuse, accept}
 unfoldable pub use Rattle.numbers.specs.Refusals.{verdict}
+use Rattle.calendar.specs.declared.NumberAnswer.{NumberAnswer}
+use Rattle.calendar.specs.declared.NumberAnswer.the-variants.{Refused, Given}
 
 -- the number of a refusal, or what the call gives
 pub data Answer (A : Type 0) : Type 0 where
@@ -19,15 +21,7 @@ unfoldable pub tested : {A : Type 0} → List Test → Answer A → Answer A
 unfolding verdict
 tested ts a = answered (verdict ts) a
 
--- the rows of the table that the calendar and supply points have
--- row 2, a value or list outside its stated range
-abbrev pub OUT-OF-RANGE : ℕ
-OUT-OF-RANGE = 2
-
--- row 6, a computed consumption above the limit
-abbrev pub TOO-LARGE : ℕ
-TOO-LARGE = 6
-
--- row 15, no basis for an estimate
-abbrev pub NO-BASIS : ℕ
-NO-BASIS = 15
+-- what each case of an answer with one number stands for
+abbrev pub answer-of : NumberAnswer → Answer ℕ
+answer-of (Refused n) = refused n
+answer-of (Given v) = given v

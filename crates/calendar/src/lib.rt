@@ -1,22 +1,39 @@
-// Gas days and holidays, and the numbers of refusals.
+// Gas days, holidays, and the types of days.
 ghost use mathlib.Core.Path.{_≡_};
 ghost use mathlib.Core.Bool.{true};
 ghost use Rattle.numbers.specs.Lists.{has, rising};
 ghost use Rattle.calendar.specs.Days.{is-gas-day, holidays-right, calendar-right};
-
-// Row 2 of the table of refusals: a value or list outside its stated range.
-pub const OUT_OF_RANGE: u8 = 2;
-
-// Row 6: a computed consumption too large.
-pub const TOO_LARGE: u8 = 6;
-
-// Row 15: no basis for an estimate.
-pub const NO_BASIS: u8 = 15;
+ghost use Rattle.calendar.specs.DayTypes.{day-type, is-working-type, same-type, type-call, answer-of};
+use numbers::OUT_OF_RANGE;
 
 // 31 December 2099.
 pub const LAST_DAY: u32 = 30680;
 
 const MOST_HOLIDAYS: usize = 2000;
+
+const WEEK: u32 = 7;
+
+// The days of the week, counted from day 0, a Friday.
+const SATURDAY: u32 = 1;
+
+const SUNDAY: u32 = 2;
+
+pub enum DayType {
+    Working,
+    Saturday,
+    SundayOrHoliday,
+}
+
+// What a call answers that gives one number.
+pub enum NumberAnswer {
+    Refused(u8),
+    Given(u64),
+}
+
+pub enum DayTypeAnswer {
+    Refused(u8),
+    Is(DayType),
+}
 
 // Whether a number is that of a gas day.
 pub fn is_gas_day(day: u32) -> bool
@@ -67,7 +84,7 @@ pub fn is_calendar(day: u32, holidays: &[u32]) -> bool
 }
 
 // Whether the day is a holiday, by halving.
-pub fn is_holiday(day: u32, holidays: &[u32]) -> bool
+fn is_holiday(day: u32, holidays: &[u32]) -> bool
     requires { ⌜ rising (now holidays) ≡ true ⌝ }
     ensures { λ r. ⌜ r ≡ has day (now (holidays .entry)) ⌝ }
 {
@@ -86,4 +103,62 @@ pub fn is_holiday(day: u32, holidays: &[u32]) -> bool
         }
     }
     false
+}
+
+// The type of a day.
+pub fn type_of_day(day: u32, holidays: &[u32]) -> DayType
+    requires { ⌜ rising (now holidays) ≡ true ⌝ }
+    ensures { λ r. ⌜ r ≡ day-type (now (holidays .entry)) day ⌝ }
+{
+    let weekday = day % WEEK;
+    if weekday == SUNDAY {
+        return DayType::SundayOrHoliday;
+    }
+    if is_holiday(day, holidays) {
+        return DayType::SundayOrHoliday;
+    }
+    if weekday == SATURDAY {
+        return DayType::Saturday;
+    }
+    DayType::Working
+}
+
+// Whether a type is that of a working day.
+pub fn is_working(day_type: DayType) -> bool
+    ensures { λ r. ⌜ r ≡ is-working-type «day_type» ⌝ }
+{
+    match day_type {
+        DayType::Working => true,
+        DayType::Saturday => false,
+        DayType::SundayOrHoliday => false,
+    }
+}
+
+// Whether two types are the same.
+pub fn are_same(one: DayType, other: DayType) -> bool
+    ensures { λ r. ⌜ r ≡ same-type one other ⌝ }
+{
+    match one {
+        DayType::Working => is_working(other),
+        DayType::Saturday => match other {
+            DayType::Working => false,
+            DayType::Saturday => true,
+            DayType::SundayOrHoliday => false,
+        },
+        DayType::SundayOrHoliday => match other {
+            DayType::Working => false,
+            DayType::Saturday => false,
+            DayType::SundayOrHoliday => true,
+        },
+    }
+}
+
+// The type of a gas day.
+pub fn day_type(day: u32, holidays: &[u32]) -> DayTypeAnswer
+    ensures { λ r. ⌜ answer-of r ≡ type-call day (now (holidays .entry)) ⌝ }
+{
+    if !is_calendar(day, holidays) {
+        return DayTypeAnswer::Refused(OUT_OF_RANGE);
+    }
+    DayTypeAnswer::Is(type_of_day(day, holidays))
 }

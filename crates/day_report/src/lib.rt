@@ -9,10 +9,10 @@ ghost use Rattle.day_file.specs.Report.{report};
 ghost use Rattle.day_file.specs.Text.{text};
 ghost use Rattle.refusal_text.specs.Room.{TEXT-ROOM};
 use calendar::LAST_DAY;
-use calendar::OUT_OF_RANGE;
 use file_form::DOWNSTREAM;
 use file_form::EMISSION;
 use file_form::GAS_DAY;
+use numbers::OUT_OF_RANGE;
 use report_text::TEXT_ROOM;
 
 // Row 13 of the table of refusals: a malformed day file.

@@ -6,9 +6,10 @@ use lib.IntN.{ℤ, pos, negsuc, _+ℤ_, _-ℤ_, _*ℤ_}
 use lib.Signed.{ltZ, leZ}
 use Rattle.numbers.specs.Sums.{pick}
 use Rattle.numbers.specs.Lists.{both}
-use Rattle.calendar.specs.Answers.{Answer, refused, given, _when_, tested, OUT-OF-RANGE}
-use Rattle.degree_days.specs.declared.DegreeDays.{DegreeDays}
-use Rattle.degree_days.specs.declared.DegreeDays.the-variants.{Refused, Fortieths}
+use Rattle.numbers.specs.Refusals.{OUT-OF-RANGE}
+use Rattle.calendar.specs.Answers.{Answer, refused, given, _when_, tested}
+use Rattle.degree_days.specs.declared.DegreeDaysAnswer.{DegreeDaysAnswer}
+use Rattle.degree_days.specs.declared.DegreeDaysAnswer.the-variants.{Refused, Fortieths}
 
 -- temperatures are in tenths of a degree, −500 to 600
 abbrev pub LOWEST : ℤ
@@ -42,10 +43,10 @@ unfoldable pub degree-days-call : ℤ → ℤ → Answer ℤ
 degree-days-call tmin tmax =
     tested ((OUT-OF-RANGE when not (temperatures-right tmin tmax)) ∷ []) (given (degree-days tmin tmax))
 
--- what the enum says, case by case: fortieths of a degree are never negative
-abbrev pub degree-days-said : DegreeDays → Answer ℤ
-degree-days-said (Refused n) = refused n
-degree-days-said (Fortieths n) = given (pos n)
+-- what each case of the answer stands for: fortieths of a degree are never negative
+abbrev pub answer-of : DegreeDaysAnswer → Answer ℤ
+answer-of (Refused n) = refused n
+answer-of (Fortieths n) = given (pos n)
 
 -- -0.1 to 0.1 degrees; the coldest and the warmest days
 about-zero : degree-days (negsuc 0) (pos 1) ≡ pos 600

@@ -3,8 +3,8 @@ ghost use mathlib.Core.Path.{_≡_};
 ghost use mathlib.Core.Bool.{true, false};
 ghost use lib.IntN.{pos, _-ℤ_};
 ghost use lib.Signed.{ltZ, leZ};
-ghost use Rattle.degree_days.specs.Degrees.{LOWEST, HIGHEST, BASE, temperatures-right, degree-days, degree-days-call, degree-days-said};
-use calendar::OUT_OF_RANGE;
+ghost use Rattle.degree_days.specs.Degrees.{LOWEST, HIGHEST, BASE, temperatures-right, degree-days, degree-days-call, answer-of};
+use numbers::OUT_OF_RANGE;
 
 // Temperatures, in tenths of a degree.
 const LOWEST: i32 = -500;
@@ -14,7 +14,7 @@ const HIGHEST: i32 = 600;
 // 15 degrees.
 const BASE: i32 = 150;
 
-pub enum DegreeDays {
+pub enum DegreeDaysAnswer {
     Refused(u8),
     Fortieths(u64),
 }
@@ -67,11 +67,11 @@ fn fortieths(tmin: i32, tmax: i32) -> u64
 }
 
 // The degree days of a day with these lowest and highest temperatures.
-pub fn degree_days(tmin: i32, tmax: i32) -> DegreeDays
-    ensures { λ r. ⌜ degree-days-said r ≡ degree-days-call tmin tmax ⌝ }
+pub fn degree_days(tmin: i32, tmax: i32) -> DegreeDaysAnswer
+    ensures { λ r. ⌜ answer-of r ≡ degree-days-call tmin tmax ⌝ }
 {
     if !are_temperatures(tmin, tmax) {
-        return DegreeDays::Refused(OUT_OF_RANGE);
+        return DegreeDaysAnswer::Refused(OUT_OF_RANGE);
     }
-    DegreeDays::Fortieths(fortieths(tmin, tmax))
+    DegreeDaysAnswer::Fortieths(fortieths(tmin, tmax))
 }

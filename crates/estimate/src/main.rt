@@ -1,27 +1,33 @@
 // Runs the calls on supply points and on the calendar with cases from standard input.
 mod input;
 
+use calendar::DayType;
+use calendar::DayTypeAnswer;
+use calendar::NumberAnswer;
 use console::cursor;
 use console::cursor::Cursor;
 use console::cursor::MOST_LENT;
 use console::output;
-use day_types::DayType;
-use day_types::DayTypeAnswer;
-use degree_days::DegreeDays;
-use reading::SpreadAnswer;
+use degree_days::DegreeDaysAnswer;
+use months::MonthAnswer;
+use spread::SpreadAnswer;
 use supply::Amount;
-use supply::ConsumptionAnswer;
 use supply::Flows;
 use supply::Toll;
 use telemetered::OwnValue;
 use telemetered::TelemeteredAnswer;
-use type_2::ProfileAnswer;
-use working_days::MonthAnswer;
 use zones::ProvinceAnswer;
-use zones::ZoneAnswer;
 
 // The most lists of winters that are read.
 const MOST_WINTERS: u64 = 8;
+
+// An answer that gives one number, under its name.
+fn print_number(name: &[u8], answer: NumberAnswer) {
+    match answer {
+        NumberAnswer::Refused(n) => output::refused(n),
+        NumberAnswer::Given(v) => output::one(name, v),
+    }
+}
 
 // ---- telemetered
 
@@ -61,12 +67,12 @@ fn take_flows(s: &[u8], from: Cursor) -> TakenFlows {
     let of_day = input::take_optional(s, of_year.next);
     let factor = input::take_word(s, of_day.next);
     let toll = toll(kind.value);
-    let year = of_year.amount;
-    let day = of_day.amount;
+    let yearly = of_year.amount;
+    let daily = of_day.amount;
     let flows = Flows {
         toll,
-        year,
-        day,
+        yearly,
+        daily,
         factor: factor.value,
     };
     let next = factor.next;
@@ -106,13 +112,6 @@ fn telemetered(s: &[u8], from: Cursor) -> Cursor {
 
 // ---- Type 1 and Type 2
 
-fn print_consumption(name: &[u8], answer: ConsumptionAnswer) {
-    match answer {
-        ConsumptionAnswer::Refused(n) => output::refused(n),
-        ConsumptionAnswer::Kwh(kwh) => output::one(name, kwh),
-    }
-}
-
 fn toll_34(s: &[u8], from: Cursor) -> Cursor {
     let day = input::take_word(s, from);
     let last_year = input::take_optional(s, day.next);
@@ -128,7 +127,7 @@ fn toll_34(s: &[u8], from: Cursor) -> Cursor {
         let month = last_month.amount;
         let flow = year.amount;
         let answer = type_1::toll_34(day.value, last, g.value, &days[..n], month, flow);
-        print_consumption(b"type1", answer);
+        print_number(b"type1", answer);
     }
     next
 }
@@ -159,7 +158,7 @@ fn other_toll(s: &[u8], from: Cursor) -> Cursor {
             f_c.value,
             c_f.value,
         );
-        print_consumption(b"type1", answer);
+        print_number(b"type1", answer);
     }
     next
 }
@@ -197,16 +196,9 @@ fn type_2(s: &[u8], from: Cursor) -> Cursor {
             &first[..m],
             &second[..n],
         );
-        print_consumption(b"type2", answer);
+        print_number(b"type2", answer);
     }
     next
-}
-
-fn print_profile(answer: ProfileAnswer) {
-    match answer {
-        ProfileAnswer::Refused(n) => output::refused(n),
-        ProfileAnswer::Wh(wh) => output::one(b"profile", wh),
-    }
 }
 
 fn profile(s: &[u8], from: Cursor) -> Cursor {
@@ -218,24 +210,18 @@ fn profile(s: &[u8], from: Cursor) -> Cursor {
     let n2 = input::take_word(s, n1.next);
     let next = n2.next;
     if next.ok {
-        print_profile(type_2::profile(
-            f1.value,
-            f2.value,
-            nc1.value,
-            nc2.value,
-            n1.value,
-            n2.value,
-        ));
+        let answer = type_2::profile(f1.value, f2.value, nc1.value, nc2.value, n1.value, n2.value);
+        print_number(b"profile", answer);
     }
     next
 }
 
 // ---- degree days, zones and provinces
 
-fn print_degree_days(answer: DegreeDays) {
+fn print_degree_days(answer: DegreeDaysAnswer) {
     match answer {
-        DegreeDays::Refused(n) => output::refused(n),
-        DegreeDays::Fortieths(d) => output::one(b"degree-days", d),
+        DegreeDaysAnswer::Refused(n) => output::refused(n),
+        DegreeDaysAnswer::Fortieths(d) => output::one(b"degree-days", d),
     }
 }
 
@@ -252,18 +238,11 @@ fn degree_days(s: &[u8], from: Cursor) -> Cursor {
     next
 }
 
-fn print_zone(answer: ZoneAnswer) {
-    match answer {
-        ZoneAnswer::Refused(n) => output::refused(n),
-        ZoneAnswer::Zone(z) => output::one(b"zone", z as u64),
-    }
-}
-
 fn zone(s: &[u8], from: Cursor) -> Cursor {
     let hundredths = input::take_word(s, from);
     let next = hundredths.next;
     if next.ok {
-        print_zone(zones::zone_of(hundredths.value));
+        print_number(b"zone", zones::zone_of(hundredths.value));
     }
     next
 }
@@ -271,7 +250,11 @@ fn zone(s: &[u8], from: Cursor) -> Cursor {
 fn print_province(answer: ProvinceAnswer) {
     match answer {
         ProvinceAnswer::Refused(n) => output::refused(n),
-        ProvinceAnswer::Of { value, zone } => output::two(b"province", value as u64, zone as u64),
+        ProvinceAnswer::ValueAndZone { value, zone } => output::two(
+            b"province",
+            value as u64,
+            zone as u64,
+        ),
     }
 }
 
@@ -288,7 +271,7 @@ fn province(s: &[u8], from: Cursor) -> Cursor {
 
 // The answer, and the lent numbers after it.
 fn print_spread(reading: u64, weights: &[i64], lent: &mut [i64]) {
-    let answer = reading::spread(reading, weights, lent);
+    let answer = spread::spread(reading, weights, lent);
     match answer {
         SpreadAnswer::Refused(n) => {
             output::text(b"refused");
@@ -335,7 +318,7 @@ fn day_type(s: &[u8], from: Cursor) -> Cursor {
     let n = holidays.count;
     let next = holidays.next;
     if next.ok {
-        print_day_type(day_types::day_type(day.value, &days[..n]));
+        print_day_type(calendar::day_type(day.value, &days[..n]));
     }
     next
 }
@@ -343,7 +326,7 @@ fn day_type(s: &[u8], from: Cursor) -> Cursor {
 fn print_month(answer: MonthAnswer) {
     match answer {
         MonthAnswer::Refused(n) => output::refused(n),
-        MonthAnswer::Of {
+        MonthAnswer::Figures {
             first,
             days,
             mask,
@@ -366,7 +349,7 @@ fn month(s: &[u8], from: Cursor) -> Cursor {
     let n = holidays.count;
     let next = holidays.next;
     if next.ok {
-        print_month(working_days::month_figures(day.value, &days[..n]));
+        print_month(months::month_figures(day.value, &days[..n]));
     }
     next
 }

@@ -25,17 +25,17 @@ use Rattle.day_file.specs.Report.{allotted, in-order, report}
 use Rattle.day_file.specs.Text.{spaced, text}
 use Rattle.calendar.specs.Answers.{tested}
 use Rattle.calendar.specs.Days.{holidays-right, calendar-right}
-use Rattle.day_types.specs.DayTypes.{day-type, is-working}
+use Rattle.calendar.specs.DayTypes.{day-type, is-working}
 use Rattle.months.specs.Months.{month-days, length-of, month-from, month-of}
-use Rattle.working_days.specs.WorkingDays.{working-mask, N-lab, N-res}
+use Rattle.months.specs.WorkingDays.{working-mask, N-lab, N-res}
 use Rattle.degree_days.specs.Degrees.{temperatures-right, degree-days, degree-days-call}
 use Rattle.zones.specs.Zones.{zone-of, zone-call}
 use Rattle.supply.specs.Amounts.{flows-right, limited}
 use Rattle.supply.specs.NewConsumer.{new-consumption}
 use Rattle.history.specs.History as history
 use Rattle.telemetered.specs.Telemetered.{from-history, values-right, telemetered}
-use Rattle.month_consumption.specs.MonthConsumption.{month-other}
-use Rattle.day_share.specs.DayShare.{day-of}
+use Rattle.type_1.specs.MonthConsumption.{month-other}
+use Rattle.type_1.specs.DayShare.{day-of}
 use Rattle.type_1.specs.Type1.{other-right, other-toll}
 use Rattle.examples.specs.Examples.{Example, example, Holds, AllHold, Last, last, file-E, E-allotted, printed, examples}
 

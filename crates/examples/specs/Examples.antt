@@ -19,7 +19,7 @@ use Rattle.day_file.specs.Report.{report}
 use Rattle.day_file.specs.Text.{text, LINE-FEED}
 use Rattle.calendar.specs.Answers.{given}
 use Rattle.months.specs.Months.{month-of}
-use Rattle.working_days.specs.WorkingDays.{N-lab}
+use Rattle.months.specs.WorkingDays.{N-lab}
 use Rattle.degree_days.specs.Degrees.{degree-days-call}
 use Rattle.zones.specs.Zones.{zone-call}
 use Rattle.supply.specs.declared.Amount.{Amount}
@@ -123,7 +123,7 @@ entry r = record { reading = r }
 
 -- Q_a, no Q_d, f_c 750
 abbrev pub flows : Toll → Amount → Flows
-flows toll Q-a = record { toll = toll; year = Q-a; day = Missing; factor = 750 }
+flows toll Q-a = record { toll = toll; yearly = Q-a; daily = Missing; factor = 750 }
 
 -- ---- the list
 

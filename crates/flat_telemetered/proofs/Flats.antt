@@ -9,7 +9,8 @@ use lib.Seq.{take-all}
 use borrow.Author.Tests.{lt-leb}
 use Rattle.numbers.specs.Sums.{table}
 use Rattle.numbers.proofs.Sums.{cases, length-table}
-use Rattle.calendar.specs.Answers.{refused, tested, OUT-OF-RANGE}
+use Rattle.numbers.specs.Refusals.{OUT-OF-RANGE}
+use Rattle.calendar.specs.Answers.{refused, tested}
 use Rattle.history.specs.History.{ENTRIES, history-right}
 use Rattle.telemetered.specs.Telemetered.{values-right, telemetered}
 use Rattle.flat_telemetered.specs.Flat.{entry-of, entries-of}

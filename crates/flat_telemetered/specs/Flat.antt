@@ -4,7 +4,8 @@ use Prim.Native.Nat.{ℕ, _+_}
 use lib.Dec.{eqb}
 use lib.ListN.{length}
 use Rattle.numbers.specs.Sums.{pick, table, at}
-use Rattle.calendar.specs.Answers.{Answer, refused, given, OUT-OF-RANGE}
+use Rattle.numbers.specs.Refusals.{OUT-OF-RANGE}
+use Rattle.calendar.specs.Answers.{Answer, refused, given}
 use Rattle.supply.specs.Amounts.{LIMIT}
 use Rattle.telemetered.specs.Telemetered.{Estimate, telemetered}
 use Rattle.supply.specs.declared.Amount.the-variants.{Missing, Known}
@@ -35,5 +36,5 @@ unfoldable pub flat-telemetered : ℕ → List ℕ → List ℕ → List ℕ →
 flat-telemetered d hs tags values flow factor =
     pick (eqb (length tags) (length values))
     (as-number
-    (telemetered d hs Missing NotSent (record { toll = OtherToll; year = Missing; day = Known flow; factor = factor }) (length tags) (entries-of tags values)))
+    (telemetered d hs Missing NotSent (record { toll = OtherToll; yearly = Missing; daily = Known flow; factor = factor }) (length tags) (entries-of tags values)))
     (LIMIT + OUT-OF-RANGE)

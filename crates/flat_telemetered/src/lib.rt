@@ -3,12 +3,12 @@ ghost use mathlib.Core.Path.{_≡_};
 ghost use Prim.Native.Nat.{_≤_};
 ghost use lib.ListN.{length, take};
 ghost use Rattle.history.specs.History.{ENTRIES};
-ghost use Rattle.telemetered.specs.Telemetered.{telemetered-said};
+ghost use Rattle.telemetered.specs.Telemetered.{answer-of};
 ghost use Rattle.flat_telemetered.specs.Flat.{reading-of, entries-of, as-number, flat-telemetered};
-use calendar::OUT_OF_RANGE;
 use history::ENTRIES;
 use history::Entry;
 use history::Reading;
+use numbers::OUT_OF_RANGE;
 use supply::Amount;
 use supply::Flows;
 use supply::LIMIT;
@@ -58,7 +58,7 @@ fn history_for(tags: &[u8], values: &[u64]) -> [Entry; ENTRIES]
 
 // An answer as one number.
 fn number_of(answer: TelemeteredAnswer) -> u64
-    ensures { λ r. ⌜ r ≡ as-number (telemetered-said answer) ⌝ }
+    ensures { λ r. ⌜ r ≡ as-number (answer-of answer) ⌝ }
 {
     match answer {
         TelemeteredAnswer::Refused(n) => LIMIT + n as u64,
@@ -87,8 +87,8 @@ pub extern "C" fn seatpomelo_telemetered(
     let history = history_for(tags, values);
     let flows = Flows {
         toll: Toll::OtherToll,
-        year: Amount::Missing,
-        day: Amount::Known(day_flow),
+        yearly: Amount::Missing,
+        daily: Amount::Known(day_flow),
         factor,
     };
     let answer = telemetered::telemetered(

@@ -8,8 +8,8 @@ use native.Mathlib.Omega.{arith}
 use lib.ListN.{length, getD, take}
 use Rattle.numbers.proofs.Sums.{cases}
 use Rattle.numbers.proofs.Lists.{All, all-map}
-use Rattle.day_types.specs.DayTypes.{day-type, same-type}
-use Rattle.history.specs.History.{MATCHES, Dated, Metered, metered, real-readings, matching, last-three, mean-value, is-empty, is-new, real-value}
+use Rattle.calendar.specs.DayTypes.{day-type, same-type}
+use Rattle.history.specs.History.{MATCHES, Dated, RealReading, real-of, real-readings, matching, last-three, mean-value, is-empty, is-new, real-value}
 use Rattle.supply.specs.declared.Amount.the-variants.{Missing, Known}
 use Rattle.history.specs.declared.Reading.{Reading}
 use Rattle.history.specs.declared.Reading.the-variants.{Nothing, Real, Estimated, Own}
@@ -23,21 +23,21 @@ NotReal x = real-value (x .reading) ≡ Missing
 
 -- ---- what stands between
 
-none-metered : (d : ℕ) (r : Reading) → real-value r ≡ Missing → metered d r ≡ []
-none-metered d Nothing e = refl
-none-metered d (Real v) e = missing-known (sym e)
-none-metered d (Estimated v) e = refl
-none-metered d (Own v) e = refl
+none-real : (d : ℕ) (r : Reading) → real-value r ≡ Missing → real-of d r ≡ []
+none-real d Nothing e = refl
+none-real d (Real v) e = missing-known (sym e)
+none-real d (Estimated v) e = refl
+none-real d (Own v) e = refl
 
 without : (zs ys : List Dated) → All NotReal zs → real-readings (zs ++ ys) ≡ real-readings ys
 unfolding real-readings
 without [] ys h = refl
-without (z ∷ zs) ys h = rw (none-metered (z .day) (z .reading) (h .0)) (without zs ys (h .1))
+without (z ∷ zs) ys h = rw (none-real (z .day) (z .reading) (h .0)) (without zs ys (h .1))
 
 same-readings : (xs zs ys : List Dated) → All NotReal zs → real-readings (xs ++ (zs ++ ys)) ≡ real-readings (xs ++ ys)
 unfolding real-readings
 same-readings [] zs ys h = without zs ys h
-same-readings (x ∷ xs) zs ys h = ap (λ t. metered (x .day) (x .reading) ++ t) (same-readings xs zs ys h)
+same-readings (x ∷ xs) zs ys h = ap (λ t. real-of (x .day) (x .reading) ++ t) (same-readings xs zs ys h)
 
 -- entries that are not real, put anywhere between, leave the last three readings, their mean and newness as they are
 module _ (hs : List ℕ) (d : ℕ) (xs zs ys : List Dated) (h : All NotReal zs) where
@@ -55,20 +55,20 @@ module _ (hs : List ℕ) (d : ℕ) (xs zs ys : List Dated) (h : All NotReal zs) 
 -- ---- what enters a mean
 
 -- m is a real entry of the history
-pub record IsReal (xs : List Dated) (m : Metered) : Type 0 where
+pub record IsReal (xs : List Dated) (m : RealReading) : Type 0 where
   pub place : ℕ
   pub inside : place < length xs
   pub entry : getD xs place (record { day = 0; reading = Nothing }) ≡ record { day = m .day; reading = Real (m .value) }
 
 -- a match: a real entry of the history, on a day of the gas day's type
-pub record IsMatch (hs : List ℕ) (d : ℕ) (xs : List Dated) (m : Metered) : Type 0 where
+pub record IsMatch (hs : List ℕ) (d : ℕ) (xs : List Dated) (m : RealReading) : Type 0 where
   pub real : IsReal xs m
   pub type : same-type (day-type hs (m .day)) (day-type hs d) ≡ true
 
-later : (x : Dated) (xs : List Dated) (m : Metered) → IsReal xs m → IsReal (x ∷ xs) m
+later : (x : Dated) (xs : List Dated) (m : RealReading) → IsReal xs m → IsReal (x ∷ xs) m
 later x xs m h = record { place = suc (h .place); inside = omega (arith, h .inside); entry = h .entry }
 
-with-first : (d : ℕ) (r : Reading) (xs : List Dated) (ms : List Metered) → All (IsReal xs) ms → All (IsReal (record { day = d; reading = r } ∷ xs)) (metered d r ++ ms)
+with-first : (d : ℕ) (r : Reading) (xs : List Dated) (ms : List RealReading) → All (IsReal xs) ms → All (IsReal (record { day = d; reading = r } ∷ xs)) (real-of d r ++ ms)
 with-first d Nothing xs ms h = all-map _ _ (later _ xs) ms h
 with-first d (Real v) xs ms h = (record { place = 0; inside = omega arith; entry = refl }, all-map _ _ (later _ xs) ms h)
 with-first d (Estimated v) xs ms h = all-map _ _ (later _ xs) ms h
@@ -79,7 +79,7 @@ unfolding real-readings
 all-real [] = tt
 all-real (x ∷ xs) = with-first (x .day) (x .reading) xs (real-readings xs) (all-real xs)
 
-all-matching : (hs : List ℕ) (d : ℕ) (xs : List Dated) (ms : List Metered) → All (IsReal xs) ms → All (IsMatch hs d xs) (matching hs (day-type hs d) ms)
+all-matching : (hs : List ℕ) (d : ℕ) (xs : List Dated) (ms : List RealReading) → All (IsReal xs) ms → All (IsMatch hs d xs) (matching hs (day-type hs d) ms)
 unfolding matching
 all-matching hs d xs [] h = tt
 all-matching hs d xs (m ∷ ms) h =

@@ -7,8 +7,8 @@ use lib.ListN.{length, getD, take}
 use Rattle.numbers.specs.Nearest.{nearest}
 use Rattle.numbers.specs.Sums.{pick, total}
 use Rattle.numbers.specs.Lists.{both, every}
-use Rattle.day_types.specs.DayTypes.{day-type, same-type}
-use Rattle.day_types.specs.declared.DayType.{DayType}
+use Rattle.calendar.specs.DayTypes.{day-type, same-type}
+use Rattle.calendar.specs.declared.DayType.{DayType}
 use Rattle.supply.specs.Amounts.{in-limit}
 use Rattle.history.specs.declared.Reading.{Reading}
 use Rattle.history.specs.declared.Reading.the-variants.{Nothing, Real, Estimated, Own}
@@ -56,23 +56,24 @@ dated d [] = []
 dated d (e ∷ es) = record { day = d - 1; reading = e .reading } ∷ dated (d - 1) es
 
 -- a real reading: its day and its value
-pub record Metered : Type 0 where
+pub record RealReading : Type 0 where
   pub day : ℕ
   pub value : ℕ
 
-abbrev pub metered : ℕ → Reading → List Metered
-metered d Nothing = []
-metered d (Real v) = record { day = d; value = v } ∷ []
-metered d (Estimated v) = []
-metered d (Own v) = []
+-- that of an entry of day d, if it is one
+abbrev pub real-of : ℕ → Reading → List RealReading
+real-of d Nothing = []
+real-of d (Real v) = record { day = d; value = v } ∷ []
+real-of d (Estimated v) = []
+real-of d (Own v) = []
 
 -- the real readings of a history
-unfoldable pub real-readings : List Dated → List Metered
+unfoldable pub real-readings : List Dated → List RealReading
 real-readings [] = []
-real-readings (x ∷ xs) = metered (x .day) (x .reading) ++ real-readings xs
+real-readings (x ∷ xs) = real-of (x .day) (x .reading) ++ real-readings xs
 
 -- those on days of a type
-unfoldable pub matching : List ℕ → DayType → List Metered → List Metered
+unfoldable pub matching : List ℕ → DayType → List RealReading → List RealReading
 matching hs t [] = []
 matching hs t (m ∷ ms) = pick (same-type (day-type hs (m .day)) t) (m ∷ matching hs t ms) (matching hs t ms)
 
@@ -80,19 +81,19 @@ matching hs t (m ∷ ms) = pick (same-type (day-type hs (m .day)) t) (m ∷ matc
 abbrev pub MATCHES : ℕ
 MATCHES = 3
 
-unfoldable pub last-three : List ℕ → ℕ → List Dated → List Metered
+unfoldable pub last-three : List ℕ → ℕ → List Dated → List RealReading
 last-three hs d xs = take MATCHES (matching hs (day-type hs d) (real-readings xs))
 
 -- the sum of their values
-unfoldable pub sum-of : List Metered → ℕ
+unfoldable pub sum-of : List RealReading → ℕ
 sum-of ms = total (map (λ m. m .value) ms)
 
 -- their mean; "One or two matches: their mean"
-unfoldable pub mean-value : List Metered → ℕ
+unfoldable pub mean-value : List RealReading → ℕ
 mean-value ms = nearest (sum-of ms) (length ms)
 
 -- "The search .. stops at the third match or at the end": how many of n entries it looks at
-unfoldable pub looked-at : ℕ → ℕ → List Metered → ℕ
+unfoldable pub looked-at : ℕ → ℕ → List RealReading → ℕ
 looked-at d n ms = pick (eqb (length ms) MATCHES) (d - getD ms (MATCHES - 1) (record { day = 0; value = 0 }) .day) n
 
 -- "A consumer is new if its history holds no real entry"

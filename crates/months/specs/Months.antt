@@ -9,8 +9,8 @@ use Rattle.numbers.specs.Lists.{has}
 use Rattle.months.specs.declared.Month.{Month}
 
 -- the months of a year; the year of gas day 0; the months from January 2016 to December 2099
-abbrev pub YEAR-MONTHS : ℕ
-YEAR-MONTHS = 12
+abbrev pub MONTHS-OF-A-YEAR : ℕ
+MONTHS-OF-A-YEAR = 12
 
 abbrev pub FIRST-YEAR : ℕ
 FIRST-YEAR = 2016
@@ -30,10 +30,10 @@ month-days year month =
 
 -- the months are counted from January 2016, which is month 0
 abbrev pub year-of : ℕ → ℕ
-year-of n = FIRST-YEAR + n / YEAR-MONTHS
+year-of n = FIRST-YEAR + n / MONTHS-OF-A-YEAR
 
 abbrev pub number-of : ℕ → ℕ
-number-of n = 1 + n % YEAR-MONTHS
+number-of n = 1 + n % MONTHS-OF-A-YEAR
 
 unfoldable pub length-of : ℕ → ℕ
 length-of n = month-days (year-of n) (number-of n)

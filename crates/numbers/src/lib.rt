@@ -1,3 +1,4 @@
+// The nearest of a fraction, signed amounts and their sums, and the numbers of refusals.
 ghost use mathlib.Core.Path.{_≡_};
 ghost use Prim.Native.Nat.{ℕ, _≤_, _<_};
 ghost use lib.Dec.{leb, eqb};
@@ -6,6 +7,55 @@ ghost use lib.ListN.{length};
 ghost use Rattle.numbers.specs.Sums.{atZ, totalZ};
 ghost use Rattle.numbers.specs.Amounts.{SAFE, Within, Between, Decides, is-negative, signed};
 ghost use Rattle.numbers.specs.Nearest.{nearest};
+
+// ---- the table of document 01, section "Refusals"
+
+// "the stage doesn't take the call, or a stand-in finds a user joined"
+pub const WRONG_STAGE: u8 = 1;
+
+// "a value or list outside its stated range"
+pub const OUT_OF_RANGE: u8 = 2;
+
+// "line for a user not joined"
+pub const NOT_JOINED: u8 = 3;
+
+// "user already joined"
+pub const ALREADY_JOINED: u8 = 4;
+
+// "all 64 users joined"
+pub const ALL_JOINED: u8 = 5;
+
+// "point-day sum, or a computed consumption, above 1,000,000,000; Type 2 product above 10^12 Wh"
+pub const ABOVE_LIMIT: u8 = 6;
+
+// "allot or stand-in unmeasured"
+pub const UNMEASURED: u8 = 7;
+
+// "allot with no user"
+pub const NO_USER: u8 = 8;
+
+// "stand-in with net at most 100"
+pub const NET_TOO_LOW: u8 = 9;
+
+// "no pair in fifteen rows"
+pub const NO_PAIR: u8 = 10;
+
+// "a weight is negative (revise outside tolerance, stand-in, reading split)"
+pub const NEGATIVE_WEIGHT: u8 = 11;
+
+// "a whole amount would pass 2,000,000,000 in size"
+pub const AMOUNT_TOO_LARGE: u8 = 12;
+
+// "day file malformed"
+pub const MALFORMED: u8 = 13;
+
+// "lent buffer under five numbers a row (inventory) or one a day (reading split)"
+pub const SHORT_BUFFER: u8 = 14;
+
+// "no basis for an estimate"
+pub const NO_BASIS: u8 = 15;
+
+// ---- numbers
 
 // The nearest of n / d, halves up. By quotient and remainder: nothing is doubled or added that could overflow.
 pub fn nearest(n: u64, d: u64) -> u64

@@ -1,15 +1,14 @@
--- Document 01, "Consumption of a supply point": amounts that may be missing, contracted flows, and answers. Assumes nothing.
+-- Document 01, "Consumption of a supply point": amounts that may be missing, contracted flows, and the limit of a computed consumption. Assumes nothing.
 use mathlib.Core.Bool.{Bool, true}
 use mathlib.Core.List.{[], _∷_}
 use Prim.Native.Nat.{ℕ}
 use lib.Dec.{leb, ltb}
 use Rattle.numbers.specs.Lists.{both}
-use Rattle.calendar.specs.Answers.{Answer, refused, given, _when_, tested, TOO-LARGE}
+use Rattle.numbers.specs.Refusals.{ABOVE-LIMIT}
+use Rattle.calendar.specs.Answers.{Answer, given, _when_, tested}
 use Rattle.supply.specs.declared.Amount.{Amount}
 use Rattle.supply.specs.declared.Amount.the-variants.{Missing, Known}
 use Rattle.supply.specs.declared.Flows.{Flows}
-use Rattle.supply.specs.declared.ConsumptionAnswer.{ConsumptionAnswer}
-use Rattle.supply.specs.declared.ConsumptionAnswer.the-variants.{Refused, Kwh}
 
 -- "month consumption and flows run from 0 to 1,000,000,000", and so do readings and computed consumptions
 abbrev pub LIMIT : ℕ
@@ -35,13 +34,8 @@ MOST-C-c = 30000
 
 -- Q_a, Q_d and f_c
 unfoldable pub flows-right : Flows → Bool
-flows-right f = both (amount-right (f .year)) (both (amount-right (f .day)) (leb (f .factor) THOUSAND))
+flows-right f = both (amount-right (f .yearly)) (both (amount-right (f .daily)) (leb (f .factor) THOUSAND))
 
 -- a computed consumption: refused above the limit, by its rounded value
 unfoldable pub limited : ℕ → Answer ℕ
-limited v = tested ((TOO-LARGE when ltb LIMIT v) ∷ []) (given v)
-
--- what the enum of a consumption says, case by case
-abbrev pub consumption-said : ConsumptionAnswer → Answer ℕ
-consumption-said (Refused n) = refused n
-consumption-said (Kwh v) = given v
+limited v = tested ((ABOVE-LIMIT when ltb LIMIT v) ∷ []) (given v)

@@ -23,8 +23,8 @@ of-day f (Known q) = Known (nearest (q * f) THOUSAND)
 
 -- "for a new consumer, Q_a / 210 (toll 3.4) or Q_d × f_c"
 abbrev pub by-toll : Toll → Flows → Amount
-by-toll Toll34 f = of-year (f .year)
-by-toll OtherToll f = of-day (f .factor) (f .day)
+by-toll Toll34 f = of-year (f .yearly)
+by-toll OtherToll f = of-day (f .factor) (f .daily)
 
 unfoldable pub new-consumption : Flows → Amount
 new-consumption f = by-toll (f .toll) f

@@ -2,8 +2,11 @@
 ghost use mathlib.Core.Path.{_≡_};
 ghost use mathlib.Core.Bool.{true};
 ghost use Prim.Native.Nat.{_≤_};
-ghost use Rattle.supply.specs.Amounts.{THOUSAND, amount-right, flows-right, consumption-said, limited};
+ghost use Rattle.calendar.specs.Answers.{answer-of};
+ghost use Rattle.supply.specs.Amounts.{THOUSAND, amount-right, flows-right, limited};
 ghost use Rattle.supply.specs.NewConsumer.{of-year, of-day, new-consumption};
+use calendar::NumberAnswer;
+use numbers::ABOVE_LIMIT;
 
 // 10^9 kWh: the most of a reading, a flow, a month's consumption and a computed consumption.
 pub const LIMIT: u64 = 1000000000;
@@ -25,17 +28,12 @@ pub enum Toll {
     OtherToll,
 }
 
-// The contracted flows: the toll, Q_a, Q_d and f_c.
+// The contracted flows of a point: its toll, Q_a (a year), Q_d (a day) and f_c.
 pub struct Flows {
     pub toll: Toll,
-    pub year: Amount,
-    pub day: Amount,
+    pub yearly: Amount,
+    pub daily: Amount,
     pub factor: u32,
-}
-
-pub enum ConsumptionAnswer {
-    Refused(u8),
-    Kwh(u64),
 }
 
 // Whether an amount is in its range, or missing.
@@ -49,46 +47,46 @@ pub fn is_amount(amount: Amount) -> bool
 }
 
 // A computed consumption, refused above the limit.
-pub fn limited_to(kwh: u64) -> ConsumptionAnswer
-    ensures { λ r. ⌜ consumption-said r ≡ limited kwh ⌝ }
+pub fn limited_to(kwh: u64) -> NumberAnswer
+    ensures { λ r. ⌜ answer-of r ≡ limited kwh ⌝ }
 {
     if LIMIT < kwh {
-        return ConsumptionAnswer::Refused(calendar::TOO_LARGE);
+        return NumberAnswer::Refused(ABOVE_LIMIT);
     }
-    ConsumptionAnswer::Kwh(kwh)
+    NumberAnswer::Given(kwh)
 }
 
 // Whether the contracted flows are in their ranges.
 pub fn are_flows(flows: Flows) -> bool
     ensures { λ r. ⌜ r ≡ flows-right flows ⌝ }
 {
-    let year = flows.year;
-    let day = flows.day;
-    if !is_amount(year) {
+    let yearly = flows.yearly;
+    let daily = flows.daily;
+    if !is_amount(yearly) {
         return false;
     }
-    if !is_amount(day) {
+    if !is_amount(daily) {
         return false;
     }
     flows.factor as u64 <= THOUSAND
 }
 
 // A new consumer's daily consumption from the yearly flow.
-fn from_year(year: Amount) -> Amount
-    ensures { λ r. ⌜ r ≡ of-year year ⌝ }
+fn from_year(flow: Amount) -> Amount
+    ensures { λ r. ⌜ r ≡ of-year flow ⌝ }
 {
-    match year {
+    match flow {
         Amount::Missing => Amount::Missing,
         Amount::Known(q) => Amount::Known(numbers::nearest(q, NEW_DAYS)),
     }
 }
 
 // The same from the daily flow.
-fn from_day(factor: u32, day: Amount) -> Amount
-    requires { ⌜ (amount-right day ≡ true) × (factor ≤ THOUSAND) ⌝ }
-    ensures { λ r. ⌜ r ≡ of-day factor day ⌝ }
+fn from_day(factor: u32, flow: Amount) -> Amount
+    requires { ⌜ (amount-right flow ≡ true) × (factor ≤ THOUSAND) ⌝ }
+    ensures { λ r. ⌜ r ≡ of-day factor flow ⌝ }
 {
-    match day {
+    match flow {
         Amount::Missing => Amount::Missing,
         Amount::Known(q) => Amount::Known(numbers::nearest(q * factor as u64, THOUSAND)),
     }
@@ -100,10 +98,10 @@ pub fn new_consumption(flows: Flows) -> Amount
     ensures { λ r. ⌜ r ≡ new-consumption flows ⌝ }
 {
     let toll = flows.toll;
-    let year = flows.year;
-    let day = flows.day;
+    let yearly = flows.yearly;
+    let daily = flows.daily;
     match toll {
-        Toll::Toll34 => from_year(year),
-        Toll::OtherToll => from_day(flows.factor, day),
+        Toll::Toll34 => from_year(yearly),
+        Toll::OtherToll => from_day(flows.factor, daily),
     }
 }

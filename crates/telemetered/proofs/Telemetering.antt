@@ -10,12 +10,13 @@ use Rattle.numbers.specs.Nearest.{nearest}
 use Rattle.numbers.specs.Sums.{pick}
 use Rattle.numbers.specs.Lists.{both, every, rising}
 use Rattle.numbers.proofs.Lists.{both-fst, both-snd}
-use Rattle.calendar.specs.Answers.{refused, given, NO-BASIS}
+use Rattle.numbers.specs.Refusals.{NO-BASIS}
+use Rattle.calendar.specs.Answers.{refused, given}
 use Rattle.calendar.specs.Days.{calendar-right}
 use Rattle.calendar.proofs.Holidays.{calendar-rising}
 use Rattle.supply.specs.Amounts.{amount-right, flows-right}
-use Rattle.history.specs.History.{ENTRIES, Dated, Metered, entry-right, history-right, last-three, sum-of, mean-value, looked-at, is-empty, is-new}
-use Rattle.last_readings.specs.Search.{found-in}
+use Rattle.history.specs.History.{ENTRIES, Dated, RealReading, entry-right, history-right, last-three, sum-of, mean-value, looked-at, is-empty, is-new}
+use Rattle.history.specs.Search.{found-in}
 use Rattle.telemetered.specs.Telemetered.{own-right, with-basis, from-history, from-found, values-right}
 use Rattle.supply.specs.NewConsumer.{new-consumption}
 use Rattle.supply.specs.declared.Amount.{Amount}
@@ -53,7 +54,7 @@ pub found-answer : (hs : List ℕ) (d : ℕ) (f : Flows) (n : ℕ) (xs : List Da
 unfolding from-found found-in from-history
 found-answer hs d f n xs = go (last-three hs d xs) (is-new xs)
   where
-    go : (ms : List Metered) (new : Bool)
+    go : (ms : List RealReading) (new : Bool)
         → pick (eqb (length ms) 0) (pick (not new) (refused NO-BASIS) (with-basis (new-consumption f) (looked-at d n ms))) (given (record { kwh = nearest (sum-of ms) (length ms); looked = looked-at d n ms }))
         ≡ pick (is-empty ms) (pick new (with-basis (new-consumption f) n) (refused NO-BASIS)) (given (record { kwh = mean-value ms; looked = looked-at d n ms }))
     go [] true = unfold looked-at in refl

@@ -6,7 +6,7 @@ use Rattle.numbers.specs.Sums.{total}
 use Rattle.numbers.specs.Lists.{every, has, rising}
 use Rattle.calendar.specs.Answers.{given, tested}
 use Rattle.calendar.specs.Days.{holidays-right, calendar-right}
-use Rattle.day_types.specs.DayTypes.{day-type}
+use Rattle.calendar.specs.DayTypes.{day-type}
 use Rattle.supply.specs.Amounts.{flows-right}
 use Rattle.history.specs.History.{history-right, dated, real-readings, matching, last-three, sum-of, mean-value, looked-at, is-new}
 use Rattle.telemetered.specs.Telemetered.{from-history, values-right, telemetered}
@@ -22,7 +22,7 @@ abbrev entry : Reading → Entry
 entry r = record { reading = r }
 
 abbrev no-flows : Flows
-no-flows = record { toll = OtherToll; year = Missing; day = Missing; factor = 750 }
+no-flows = record { toll = OtherToll; yearly = Missing; daily = Missing; factor = 750 }
 
 -- the third match ends the search: an eighth entry and more are not looked at
 longer : telemetered 14 [] Missing NotSent no-flows 9 (entry (Own 5) ∷ entry Nothing ∷ entry (Real 10) ∷ entry (Real 10) ∷ entry (Real 1) ∷ entry (Real 1) ∷ entry (Real 11) ∷ entry (Real 9999) ∷ entry (Real 9999) ∷ []) ≡ given (record { kwh = 10; looked = 7 })

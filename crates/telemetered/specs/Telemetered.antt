@@ -7,7 +7,8 @@ use lib.ListN.{take}
 use Rattle.numbers.specs.Nearest.{nearest}
 use Rattle.numbers.specs.Sums.{pick}
 use Rattle.numbers.specs.Lists.{both}
-use Rattle.calendar.specs.Answers.{Answer, refused, given, _when_, tested, OUT-OF-RANGE, NO-BASIS}
+use Rattle.numbers.specs.Refusals.{OUT-OF-RANGE, NO-BASIS}
+use Rattle.calendar.specs.Answers.{Answer, refused, given, _when_, tested}
 use Rattle.calendar.specs.Days.{calendar-right}
 use Rattle.supply.specs.Amounts.{in-limit, amount-right, flows-right}
 use Rattle.supply.specs.NewConsumer.{new-consumption}
@@ -18,7 +19,7 @@ use Rattle.telemetered.specs.declared.OwnValue.{OwnValue}
 use Rattle.telemetered.specs.declared.OwnValue.the-variants.{NotSent, Sent}
 use Rattle.supply.specs.declared.Flows.{Flows}
 use Rattle.history.specs.declared.Entry.{Entry}
-use Rattle.last_readings.specs.declared.Found.{Found}
+use Rattle.history.specs.declared.Found.{Found}
 use Rattle.telemetered.specs.declared.TelemeteredAnswer.{TelemeteredAnswer}
 use Rattle.telemetered.specs.declared.TelemeteredAnswer.the-variants.{Refused, Consumption}
 
@@ -81,7 +82,7 @@ telemetered d hs reading own f n es =
     ∷ [])
     (or-else (first-of reading (value-to-use own)) (from-history hs d f n (dated d (take n es))))
 
--- what the enum says, case by case
-abbrev pub telemetered-said : TelemeteredAnswer → Answer Estimate
-telemetered-said (Refused n) = refused n
-telemetered-said (Consumption kwh looked) = given (record { kwh = kwh; looked = looked })
+-- what each case of the answer stands for
+abbrev pub answer-of : TelemeteredAnswer → Answer Estimate
+answer-of (Refused n) = refused n
+answer-of (Consumption kwh looked) = given (record { kwh = kwh; looked = looked })

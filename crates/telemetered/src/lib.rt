@@ -2,12 +2,12 @@
 ghost use mathlib.Core.Path.{_≡_};
 ghost use mathlib.Core.Bool.{true};
 ghost use Rattle.supply.specs.Amounts.{flows-right};
-ghost use Rattle.telemetered.specs.Telemetered.{value-to-use, own-right, first-of, from-found, values-right, telemetered, telemetered-said};
-use calendar::NO_BASIS;
-use calendar::OUT_OF_RANGE;
+ghost use Rattle.telemetered.specs.Telemetered.{value-to-use, own-right, first-of, from-found, values-right, telemetered, answer-of};
 use history::ENTRIES;
 use history::Entry;
-use last_readings::Found;
+use history::Found;
+use numbers::NO_BASIS;
+use numbers::OUT_OF_RANGE;
 use supply::Amount;
 use supply::Flows;
 use supply::LIMIT;
@@ -56,7 +56,7 @@ fn first_known(one: Amount, other: Amount) -> Amount
 // What a search leads to: the mean of the matches, or a new consumer's consumption, or no basis.
 fn from_found(found: Found, flows: Flows) -> TelemeteredAnswer
     requires { ⌜ flows-right flows ≡ true ⌝ }
-    ensures { λ r. ⌜ telemetered-said r ≡ from-found flows found ⌝ }
+    ensures { λ r. ⌜ answer-of r ≡ from-found flows found ⌝ }
 {
     if found.matches == 0 {
         if found.real {
@@ -103,7 +103,7 @@ pub fn telemetered(
     history: [Entry; ENTRIES],
     count: usize,
 ) -> TelemeteredAnswer
-    ensures { λ r. ⌜ telemetered-said r ≡ telemetered day (now (holidays .entry)) reading own flows count history ⌝ }
+    ensures { λ r. ⌜ answer-of r ≡ telemetered day (now (holidays .entry)) reading own flows count history ⌝ }
 {
     if !are_values(day, holidays, reading, own, flows) {
         return TelemeteredAnswer::Refused(OUT_OF_RANGE);
@@ -116,6 +116,6 @@ pub fn telemetered(
     if let Amount::Known(kwh) = known {
         return TelemeteredAnswer::Consumption { kwh, looked: 0 };
     }
-    let found = last_readings::search(day, holidays, history, count);
+    let found = history::search(day, holidays, history, count);
     from_found(found, flows)
 }

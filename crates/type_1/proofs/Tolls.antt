@@ -13,14 +13,14 @@ use Rattle.numbers.specs.Lists.{both, every, rising}
 use Rattle.numbers.proofs.Sums.{cases}
 use Rattle.numbers.proofs.Lists.{both-fst, both-snd}
 use Rattle.calendar.specs.Days.{LAST-DAY, is-gas-day, calendar-right}
-use Rattle.day_types.specs.DayTypes.{is-working}
+use Rattle.calendar.specs.DayTypes.{is-working}
 use Rattle.months.specs.Months.{month-of, last-year-days}
-use Rattle.working_days.specs.WorkingDays.{N-lab, N-res}
+use Rattle.months.specs.WorkingDays.{N-lab, N-res}
 use Rattle.calendar.proofs.Holidays.{calendar-day, calendar-rising}
 use Rattle.months.proofs.Months.{month-length, month-holds}
-use Rattle.working_days.proofs.Masks.{some-working, some-other, working-all}
-use Rattle.coefficients.specs.Temperature.{MOST-DAYS, MOST-DEGREES, is-degrees}
-use Rattle.winters.proofs.Winters.{Month}
+use Rattle.months.proofs.Masks.{some-working, some-other, working-all}
+use Rattle.temperature.specs.Temperature.{MOST-DAYS, MOST-DEGREES, is-degrees}
+use Rattle.temperature.proofs.Winters.{Month}
 use Rattle.supply.specs.Amounts.{THOUSAND, MOST-C-c, amount-right}
 use Rattle.type_1.specs.Type1.{last-days-right, toll-34-right, sharing, other-right}
 use Rattle.supply.specs.declared.Amount.{Amount}

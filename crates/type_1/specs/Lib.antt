@@ -1,1 +1,3 @@
+pub mod MonthConsumption
+pub mod DayShare
 pub mod Type1

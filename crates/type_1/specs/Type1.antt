@@ -7,15 +7,16 @@ use lib.Dec.{leb, eqb}
 use lib.ListN.{length, replicate}
 use Rattle.numbers.specs.Sums.{pick}
 use Rattle.numbers.specs.Lists.{both, every, has}
-use Rattle.calendar.specs.Answers.{Answer, _when_, tested, OUT-OF-RANGE}
+use Rattle.numbers.specs.Refusals.{OUT-OF-RANGE}
+use Rattle.calendar.specs.Answers.{Answer, _when_, tested}
 use Rattle.calendar.specs.Days.{is-gas-day, calendar-right}
-use Rattle.day_types.specs.DayTypes.{is-working}
+use Rattle.calendar.specs.DayTypes.{is-working}
 use Rattle.months.specs.Months.{month-days, length-of, month-from, month-of, last-year-days}
-use Rattle.working_days.specs.WorkingDays.{N-lab, N-res}
+use Rattle.months.specs.WorkingDays.{N-lab, N-res}
 use Rattle.months.specs.declared.Month.{Month}
-use Rattle.month_consumption.specs.MonthConsumption.{month-34, month-other}
-use Rattle.day_share.specs.DayShare.{day-of, part-of}
-use Rattle.coefficients.specs.Temperature.{is-degrees, C-temp1}
+use Rattle.type_1.specs.MonthConsumption.{month-34, month-other}
+use Rattle.type_1.specs.DayShare.{day-of, part-of}
+use Rattle.temperature.specs.Temperature.{is-degrees, C-temp1}
 use Rattle.supply.specs.Amounts.{THOUSAND, MOST-C-c, amount-right}
 use Rattle.supply.specs.declared.Amount.{Amount}
 

@@ -1,14 +1,18 @@
 // Type 1 points: a month's consumption, shared out over its days.
+mod day_share;
+mod month_consumption;
+
 ghost use mathlib.Core.Path.{_≡_};
 ghost use Prim.Native.Nat.{_≤_};
 ghost use lib.Dec.{leb};
 ghost use Rattle.numbers.specs.Lists.{both};
 ghost use Rattle.calendar.specs.Days.{LAST-DAY};
-ghost use Rattle.supply.specs.Amounts.{THOUSAND, MOST-C-c, amount-right, consumption-said};
+ghost use Rattle.calendar.specs.Answers.{answer-of};
+ghost use Rattle.supply.specs.Amounts.{THOUSAND, MOST-C-c, amount-right};
 ghost use Rattle.type_1.specs.Type1.{last-days-right, toll-34-right, toll-34, other-right, other-toll};
-use calendar::OUT_OF_RANGE;
+use calendar::NumberAnswer;
+use numbers::OUT_OF_RANGE;
 use supply::Amount;
-use supply::ConsumptionAnswer;
 use supply::THOUSAND;
 
 // The most of C_c, in ten-thousandths.
@@ -36,7 +40,7 @@ fn are_last_days(day: u32, last_days: &[u32]) -> bool
     if last_days.len() != months::days_last_year(month) as usize {
         return false;
     }
-    winters::are_all_degrees(last_days)
+    temperature::are_all_degrees(last_days)
 }
 
 // Whether everything that is given for a point of toll 3.4 is in its range.
@@ -56,7 +60,7 @@ fn is_toll_34(
     if !are_amounts(last_year, last_month, year_flow) {
         return false;
     }
-    if !winters::are_degrees(g) {
+    if !temperature::are_degrees(g) {
         return false;
     }
     are_last_days(day, last_days)
@@ -70,14 +74,14 @@ pub fn toll_34(
     last_days: &[u32],
     last_month: Amount,
     year_flow: Amount,
-) -> ConsumptionAnswer
-    ensures { λ r. ⌜ consumption-said r ≡ toll-34 day «last_year» g (now («last_days» .entry)) «last_month» «year_flow» ⌝ }
+) -> NumberAnswer
+    ensures { λ r. ⌜ answer-of r ≡ toll-34 day «last_year» g (now («last_days» .entry)) «last_month» «year_flow» ⌝ }
 {
     if !is_toll_34(day, last_year, g, last_days, last_month, year_flow) {
-        return ConsumptionAnswer::Refused(OUT_OF_RANGE);
+        return NumberAnswer::Refused(OUT_OF_RANGE);
     }
-    let mean = winters::mean_of(last_days);
-    let correction = coefficients::correction_of(g, mean);
+    let mean = temperature::mean_of(last_days);
+    let correction = temperature::correction_of(g, mean);
     let basis = month_consumption::month_of_34(last_year, correction, last_month, year_flow);
     let month = months::month_of_day(day);
     day_share::day_of_month(basis, 1, month.days as u64)
@@ -128,8 +132,8 @@ pub fn other_toll(
     day_flow: Amount,
     f_c: u32,
     c_f: u32,
-) -> ConsumptionAnswer
-    ensures { λ r. ⌜ consumption-said r ≡ other-toll day (now (holidays .entry)) «last_year» «c_c» «last_month» «day_flow» «f_c» «c_f» ⌝ }
+) -> NumberAnswer
+    ensures { λ r. ⌜ answer-of r ≡ other-toll day (now (holidays .entry)) «last_year» «c_c» «last_month» «day_flow» «f_c» «c_f» ⌝ }
 {
     if !is_other_toll(
         day,
@@ -141,7 +145,7 @@ pub fn other_toll(
         f_c,
         c_f,
     ) {
-        return ConsumptionAnswer::Refused(OUT_OF_RANGE);
+        return NumberAnswer::Refused(OUT_OF_RANGE);
     }
     let month = months::month_of_day(day);
     let basis = month_consumption::month_of_other(
@@ -152,8 +156,8 @@ pub fn other_toll(
         f_c,
         month.days,
     );
-    let working = day_types::is_working(day_types::type_of_day(day, holidays));
-    let lab = working_days::working_days(month, holidays);
+    let working = calendar::is_working(calendar::type_of_day(day, holidays));
+    let lab = months::working_days(month, holidays);
     let days = day_share::days_for(working, month.days, lab);
     day_share::day_of_month(basis, day_share::part_for(working, c_f), THOUSAND * days)
 }

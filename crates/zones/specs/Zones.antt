@@ -7,12 +7,11 @@ use lib.Dec.{leb, ltb, eqb}
 use lib.ListN.{length, getD}
 use Rattle.numbers.specs.Sums.{pick}
 use Rattle.numbers.specs.Lists.{both, every}
-use Rattle.calendar.specs.Answers.{Answer, refused, given, _when_, tested, OUT-OF-RANGE}
+use Rattle.numbers.specs.Refusals.{OUT-OF-RANGE}
+use Rattle.calendar.specs.Answers.{Answer, refused, given, _when_, tested}
 use Rattle.zones.specs.declared.Province.{Province}
-use Rattle.zones.specs.declared.ZoneAnswer.{ZoneAnswer}
-use Rattle.zones.specs.declared.ZoneAnswer.the-variants.{Refused as NoZone, Zone}
 use Rattle.zones.specs.declared.ProvinceAnswer.{ProvinceAnswer}
-use Rattle.zones.specs.declared.ProvinceAnswer.the-variants.{Refused as NoProvince, Of}
+use Rattle.zones.specs.declared.ProvinceAnswer.the-variants.{Refused, ValueAndZone}
 
 -- "from hundredths of a degree day (0 to 1,000)"
 abbrev pub MOST-HUNDREDTHS : ℕ
@@ -24,11 +23,6 @@ zone-of v = pick (ltb v 170) 1 (pick (ltb v 240) 2 (pick (leb v 380) 3 4))
 
 unfoldable pub zone-call : ℕ → Answer ℕ
 zone-call v = tested ((OUT-OF-RANGE when not (leb v MOST-HUNDREDTHS)) ∷ []) (given (zone-of v))
-
--- what the enum says, case by case
-abbrev pub zone-said : ZoneAnswer → Answer ℕ
-zone-said (NoZone n) = refused n
-zone-said (Zone z) = given z
 
 -- a province's degree-day value, in hundredths, and its zone
 abbrev pub _in-zone_ : ℕ → ℕ → Province
@@ -106,7 +100,7 @@ province-call n =
     tested ((OUT-OF-RANGE when not (both (leb 1 n) (leb n PROVINCES))) ∷ [])
     (given (getD provinces (n - 1) (0 in-zone 0)))
 
--- what the enum says, case by case
-abbrev pub province-said : ProvinceAnswer → Answer Province
-province-said (NoProvince n) = refused n
-province-said (Of v z) = given (v in-zone z)
+-- what each case of the answer stands for
+abbrev pub answer-of : ProvinceAnswer → Answer Province
+answer-of (Refused n) = refused n
+answer-of (ValueAndZone v z) = given (v in-zone z)

@@ -1,7 +1,9 @@
 // Climate zones, and the provinces with their degree-day values.
 ghost use mathlib.Core.Path.{_≡_};
-ghost use Rattle.zones.specs.Zones.{zone-call, zone-said, province-call, province-said};
-use calendar::OUT_OF_RANGE;
+ghost use Rattle.calendar.specs.Answers as Answers;
+ghost use Rattle.zones.specs.Zones.{zone-call, province-call, answer-of};
+use calendar::NumberAnswer;
+use numbers::OUT_OF_RANGE;
 
 // The most hundredths of a degree day of a zone.
 const MOST_HUNDREDTHS: u32 = 1000;
@@ -14,33 +16,28 @@ pub struct Province {
     pub zone: u32,
 }
 
-pub enum ZoneAnswer {
-    Refused(u8),
-    Zone(u32),
-}
-
 pub enum ProvinceAnswer {
     Refused(u8),
-    Of { value: u32, zone: u32 },
+    ValueAndZone { value: u32, zone: u32 },
 }
 
 // The zone of a degree-day value, in hundredths.
-pub fn zone_of(hundredths: u32) -> ZoneAnswer
-    ensures { λ r. ⌜ zone-said r ≡ zone-call hundredths ⌝ }
+pub fn zone_of(hundredths: u32) -> NumberAnswer
+    ensures { λ r. ⌜ Answers.answer-of r ≡ zone-call hundredths ⌝ }
 {
     if MOST_HUNDREDTHS < hundredths {
-        return ZoneAnswer::Refused(OUT_OF_RANGE);
+        return NumberAnswer::Refused(OUT_OF_RANGE);
     }
     if hundredths < 170 {
-        return ZoneAnswer::Zone(1);
+        return NumberAnswer::Given(1);
     }
     if hundredths < 240 {
-        return ZoneAnswer::Zone(2);
+        return NumberAnswer::Given(2);
     }
     if hundredths <= 380 {
-        return ZoneAnswer::Zone(3);
+        return NumberAnswer::Given(3);
     }
-    ZoneAnswer::Zone(4)
+    NumberAnswer::Given(4)
 }
 
 // The provinces in the order of section 1.6 of PD-02.
@@ -97,7 +94,7 @@ const PROVINCES: [Province; 48] = [
 
 // The value and the zone of a province, numbered from 1.
 pub fn province_of(number: u32) -> ProvinceAnswer
-    ensures { λ r. ⌜ province-said r ≡ province-call number ⌝ }
+    ensures { λ r. ⌜ answer-of r ≡ province-call number ⌝ }
 {
     if number < 1 {
         return ProvinceAnswer::Refused(OUT_OF_RANGE);
@@ -107,7 +104,7 @@ pub fn province_of(number: u32) -> ProvinceAnswer
     }
     let i = number as usize - 1;
     let p = PROVINCES[i];
-    ProvinceAnswer::Of {
+    ProvinceAnswer::ValueAndZone {
         value: p.mean,
         zone: p.zone,
     }

@@ -1,9 +1,9 @@
 //! The proved library, as a Rust program calls it.
 
-#[path = "../../../../include/reading.rs"]
-mod reading;
+#[path = "../../../../include/spread.rs"]
+mod spread;
 
-use reading::seatpomelo_spread;
+use spread::seatpomelo_spread;
 
 /// A share for each day, or document 01's number of the refusal. Any arguments will do: the call tests them itself.
 pub fn spread(reading: u64, weights: &[i64], out: &mut [i64]) -> Result<(), u8> {

@@ -1,7 +1,7 @@
 -- `flat_telemetered::number_of` meets its contract. Each arm is a case of the definition. Assumes nothing.
 use mathlib.Core.Path.{sym, ap}
 use borrow.Author.Needs.{needs}
-use Rattle.telemetered.specs.Telemetered.{telemetered-said}
+use Rattle.telemetered.specs.Telemetered.{answer-of}
 use Rattle.flat_telemetered.specs.Flat.{as-number}
 use Rattle.flat_telemetered.proofs.number_of.Statement.{statement}
 use Rattle.flat_telemetered.proofs.number_of.Tie as tie
@@ -19,7 +19,7 @@ enum-known-answer-2 : tie.Need-enum-known-answer-2
 enum-known-answer-2 c = search needs
 
 returns : tie.Need-returns
-returns c = sym (ap (λ a. as-number (telemetered-said a)) (c .before .answer .given .1))
+returns c = sym (ap (λ a. as-number (answer-of a)) (c .before .answer .given .1))
 
 returns-2 : tie.Need-returns-2
 returns-2 c = search needs

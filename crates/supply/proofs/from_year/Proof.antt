@@ -9,8 +9,8 @@ use Rattle.supply.proofs.from_year.Tie as tie
 enum-told : tie.Need-enum-told
 enum-told c = search needs
 
-enum-known-year : tie.Need-enum-known-year
-enum-known-year c = search needs
+enum-known-flow : tie.Need-enum-known-flow
+enum-known-flow c = search needs
 
 nearest-requires : tie.Need-nearest-requires
 nearest-requires c κs = search needs
@@ -19,7 +19,7 @@ returns : tie.Need-returns
 returns c = search needs
 
 returns-2 : tie.Need-returns-2
-returns-2 c = ap Known (c .nearest .ensures) ∙ sym (ap of-year (c .before .before .year .given .1))
+returns-2 c = ap Known (c .nearest .ensures) ∙ sym (ap of-year (c .before .before .flow .given .1))
 
 pub from-year-spec : {M : Type 1} → statement M
-from-year-spec = tie.close (tie.spec enum-told enum-known-year nearest-requires returns returns-2)
+from-year-spec = tie.close (tie.spec enum-told enum-known-flow nearest-requires returns returns-2)

@@ -21,8 +21,8 @@ from-day-requires : tie.Need-from-day-requires
 unfolding flows-right
 from-day-requires c κs =
     let f = c .before .before .args .flows in
-    let h = both-snd (amount-right (f .year)) _ (c .before .before .pre) in
-    (both-fst _ _ h, leb-true _ THOUSAND (both-snd (amount-right (f .day)) _ h))
+    let h = both-snd (amount-right (f .yearly)) _ (c .before .before .pre) in
+    (both-fst _ _ h, leb-true _ THOUSAND (both-snd (amount-right (f .daily)) _ h))
 
 returns : tie.Need-returns
 unfolding new-consumption

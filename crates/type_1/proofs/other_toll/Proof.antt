@@ -5,19 +5,19 @@ use Prim.Native.Nat.{ℕ, _-_, _*_, _≤_}
 use native.Mathlib.Omega.{arith}
 use borrow.Author.Tests.{not-true, not-false}
 use borrow.Author.Needs.{needs}
-use Rattle.month_consumption.specs.declared.Basis.{Basis}
+use Rattle.type_1.specs.declared.month_consumption.Basis.{Basis}
 use Rattle.supply.specs.Amounts.{THOUSAND}
 use Rattle.numbers.specs.Sums.{pick}
 use Rattle.calendar.specs.Answers.{tested}
-use Rattle.day_types.specs.DayTypes.{is-working, is-working-type}
+use Rattle.calendar.specs.DayTypes.{is-working, is-working-type}
 use Rattle.months.specs.Months.{month-of}
-use Rattle.working_days.specs.WorkingDays.{N-lab, N-res}
+use Rattle.months.specs.WorkingDays.{N-lab, N-res}
 use Rattle.months.proofs.Months.{Holds, month-holds}
-use Rattle.working_days.proofs.Masks.{working-all}
-use Rattle.month_consumption.specs.MonthConsumption.{month-other, SmallBasis}
-use Rattle.day_share.specs.DayShare.{day-of, part-of}
+use Rattle.months.proofs.Masks.{working-all}
+use Rattle.type_1.specs.MonthConsumption.{month-other, SmallBasis}
+use Rattle.type_1.specs.DayShare.{day-of, part-of}
 use Rattle.type_1.specs.Type1.{sharing, other-toll}
-use Rattle.month_consumption.proofs.Bases.{small-other}
+use Rattle.type_1.proofs.Bases.{small-other}
 use Rattle.type_1.proofs.Tolls.{RightOther, right-other, Shares, shares}
 use Rattle.type_1.proofs.other_toll.Statement.{statement}
 use Rattle.type_1.proofs.other_toll.Tie as tie

@@ -3,15 +3,15 @@ use mathlib.Core.Path.{_≡_, sym, ap, ap₂, _∙_}
 use native.Mathlib.Omega.{arith}
 use borrow.Author.Tests.{not-true, not-false}
 use borrow.Author.Needs.{needs}
-use Rattle.month_consumption.specs.MonthConsumption.{SmallBasis, month-34}
-use Rattle.day_share.specs.DayShare.{day-of}
+use Rattle.type_1.specs.MonthConsumption.{SmallBasis, month-34}
+use Rattle.type_1.specs.DayShare.{day-of}
 use Rattle.type_1.specs.Type1.{toll-34}
 use Rattle.calendar.specs.Answers.{tested}
 use Rattle.months.proofs.Months.{month-holds}
-use Rattle.coefficients.specs.Temperature.{correction, C-temp1}
-use Rattle.winters.proofs.Winters.{mean-sound}
-use Rattle.coefficients.proofs.Fractions.{corrects}
-use Rattle.month_consumption.proofs.Bases.{small-34}
+use Rattle.temperature.specs.Temperature.{correction, C-temp1}
+use Rattle.temperature.proofs.Winters.{mean-sound}
+use Rattle.temperature.proofs.Fractions.{corrects}
+use Rattle.type_1.proofs.Bases.{small-34}
 use Rattle.type_1.proofs.Tolls.{Right34, right-34}
 use Rattle.type_1.proofs.toll_34.Statement.{statement}
 use Rattle.type_1.proofs.toll_34.Tie as tie

@@ -8,11 +8,11 @@ use borrow.Author.Tests.{lt-ltb, le-ltb, not-true, not-false}
 use borrow.Author.Needs.{needs}
 use Rattle.numbers.specs.Nearest.{nearest}
 use Rattle.calendar.specs.Answers.{tested}
-use Rattle.coefficients.specs.Temperature.{correction, C-temp2, Corrects}
-use Rattle.winters.proofs.Winters.{winters-sound}
-use Rattle.coefficients.proofs.Fractions.{corrects}
+use Rattle.temperature.specs.Temperature.{correction, C-temp2, Corrects}
+use Rattle.temperature.proofs.Winters.{winters-sound}
+use Rattle.temperature.proofs.Fractions.{corrects}
 use Rattle.supply.specs.Amounts.{limited}
-use Rattle.type_2.specs.Type2.{TRILLION, KILO, type-2-right, type-2}
+use Rattle.type_2.specs.Type2.{MOST-PRODUCT, KILO, type-2-right, type-2}
 use Rattle.type_2.proofs.Profiling.{Right2, right-2}
 use Rattle.type_2.proofs.type_2.Statement.{statement}
 use Rattle.type_2.proofs.type_2.Tie as tie
@@ -55,7 +55,7 @@ returns-2 : tie.Need-returns-2
 unfolding type-2 tested
 returns-2 c =
     let n = s (c .before) .args .consumers * s (c .before) .args .profile in
-    rw (is-right (c .before), lt-ltb TRILLION n (omega arith))
+    rw (is-right (c .before), lt-ltb MOST-PRODUCT n (omega arith))
 
 mean-of-winters-requires : tie.Need-mean-of-winters-requires
 mean-of-winters-requires c κs = passed (c .before) .winters
@@ -82,7 +82,7 @@ unfolding type-2 tested
 returns-3 c =
     let d = c .before .before .before .before in
     let n = s (e d) .args .consumers * s (e d) .args .profile in
-    rw (is-right (e d), le-ltb TRILLION n (omega (arith, c .before .before .before .before .before .before .if2 .left)))
+    rw (is-right (e d), le-ltb MOST-PRODUCT n (omega (arith, c .before .before .before .before .before .before .if2 .left)))
     (c .limited-to .ensures ∙ ap limited (c .before .nearest .ensures ∙ ap (λ f. nearest (n * f .top) (f .bottom * KILO)) (correction-is d)))
 
 pub type-2-spec : {M : Type 1} → statement M

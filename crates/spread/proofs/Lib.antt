@@ -1,0 +1,4 @@
+pub mod Ranges
+pub mod Periods
+pub mod Outcomes
+pub mod Laws

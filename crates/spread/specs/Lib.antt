@@ -1,0 +1,3 @@
+pub mod Period
+pub mod Spread
+pub mod Laws
