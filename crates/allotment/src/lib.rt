@@ -28,21 +28,21 @@ pub fn allot_taken(day: PointDay) -> Outcome
     ensures { λ r. ⌜ outcome (answer-of (r .answer)) (r .day) ≡ called allot day ⌝ }
 {
     if day.allotted {
-        return point_day::refuse(1, day);
+        return point_day::refuse(numbers::WRONG_STAGE, day);
     }
     let measurement = day.measurement;
     let Measurement::Measured(emission, downstream) = measurement else {
-        return point_day::refuse(7, day);
+        return point_day::refuse(numbers::UNMEASURED, day);
     };
     let n = day.count;
     if n == 0 {
-        return point_day::refuse(8, day);
+        return point_day::refuse(numbers::NO_USER, day);
     }
     let net = emission - downstream;
     let balance = balance::balance_cells(net, &day.consumption, &day.losses, &day.users, n);
     let next = put_balances(day, balance);
     if taken::any_too_large(next) {
-        return point_day::refuse(12, day);
+        return point_day::refuse(numbers::AMOUNT_TOO_LARGE, day);
     }
     Outcome {
         answer: Answer::Done,
@@ -55,7 +55,7 @@ pub fn allot(day: PointDay) -> Outcome
     ensures { λ r. ⌜ outcome (answer-of (r .answer)) (r .day) ≡ called allot day ⌝ }
 {
     if !taken::is_taken(day) {
-        return point_day::refuse(2, day);
+        return point_day::refuse(numbers::OUT_OF_RANGE, day);
     }
     allot_taken(day)
 }

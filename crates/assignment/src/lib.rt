@@ -24,7 +24,7 @@ pub fn assign(day: PointDay, amount: i64, column: [i64; USERS]) -> Outcome
     let revision = outstanding::added(before, shares);
     let next = outstanding::with_revision(day, revision);
     if taken::any_too_large(next) {
-        return point_day::refuse(12, day);
+        return point_day::refuse(numbers::AMOUNT_TOO_LARGE, day);
     }
     Outcome {
         answer: Answer::RevisionAssigned(amount),

@@ -13,6 +13,7 @@ ghost use Rattle.plain_day.specs.Layout.{LENGTH, day-in};
 ghost use Rattle.plain_calls.specs.Plain.{plain, given, plain-call, plain-fresh, rows-laid-out, misfits, rows-in, plain-stand-in};
 ghost use Rattle.plain_calls.specs.Listing.{plain-inventory, answer-number, counted};
 use inventory::InventoryAnswer;
+use numbers::OUT_OF_RANGE;
 use plain_day::LENGTH;
 use point_day::Answer;
 use point_day::Outcome;
@@ -20,9 +21,6 @@ use point_day::PAIRS;
 use point_day::ROWS;
 use point_day::StandInRows;
 use point_day::USERS;
-
-// The row of the table of refusals for numbers that no point-day is read from.
-const OUT_OF_RANGE: u8 = 2;
 
 // ---- The rows of a stand-in
 

@@ -1,3 +1,4 @@
+// The report on a day file, from its bytes to the bytes of the text.
 ghost use mathlib.Core.Path.{_≡_};
 ghost use Prim.Native.Nat.{_≤_};
 ghost use lib.Dec.{leb};
@@ -12,11 +13,9 @@ use calendar::LAST_DAY;
 use file_form::DOWNSTREAM;
 use file_form::EMISSION;
 use file_form::GAS_DAY;
+use numbers::MALFORMED;
 use numbers::OUT_OF_RANGE;
 use report_text::TEXT_ROOM;
-
-// Row 13 of the table of refusals: a malformed day file.
-const MALFORMED: u8 = 13;
 
 // Writes the report on a day file: the calls that it stands for, on a fresh point-day, and the first refusal is the answer.
 fn put_report(file: &[u8], out: &mut [u8]) -> usize

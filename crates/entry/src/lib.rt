@@ -53,19 +53,19 @@ pub fn join_test<'a>(
         balance,
         revision,
     ) {
-        return 2;
+        return numbers::OUT_OF_RANGE;
     }
     if allotted {
-        return 1;
+        return numbers::WRONG_STAGE;
     }
     if user == 0 {
-        return 2;
+        return numbers::OUT_OF_RANGE;
     }
     if state::slot_of(users, n, user) < n {
-        return 4;
+        return numbers::ALREADY_JOINED;
     }
     if USERS <= n {
-        return 5;
+        return numbers::ALL_JOINED;
     }
     0
 }

@@ -1,3 +1,4 @@
+// The sections of a day file entered into lent arrays.
 ghost use mathlib.Core.Path.{_≡_};
 ghost use mathlib.Core.Bool.{true};
 ghost use mathlib.Core.List.{map};

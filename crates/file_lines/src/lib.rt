@@ -42,7 +42,7 @@ pub fn enter_line(
     let amount = wire::read_u32(file, at + CONSUMPTION);
     let coefficient = wire::read_u16(file, at + COEFFICIENT);
     if !line_cells::line_right(user, kind, amount, coefficient) {
-        return Entry::Refused(2);
+        return Entry::Refused(numbers::OUT_OF_RANGE);
     }
     match line_cells::line_cell(
         consumption,
@@ -65,13 +65,13 @@ pub fn enter_user(users: &mut [u16; USERS], slot: usize, user: u16) -> u8
     ensures { λ r. ⌜ now (users .exit) ≡ pick (eqb r 0) (set (now (users .entry)) slot user) (now (users .entry)) ⌝ }
 {
     if user == 0 {
-        return 2;
+        return numbers::OUT_OF_RANGE;
     }
     if state::slot_of(users, slot, user) < slot {
-        return 4;
+        return numbers::ALREADY_JOINED;
     }
     if USERS <= slot {
-        return 5;
+        return numbers::ALL_JOINED;
     }
     users[slot] = user;
     0

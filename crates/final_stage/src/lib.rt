@@ -68,11 +68,11 @@ pub fn start_final(day: PointDay) -> Outcome
     ensures { λ r. ⌜ outcome (answer-of (r .answer)) (r .day) ≡ called start-final day ⌝ }
 {
     if !taken::is_taken(day) {
-        return point_day::refuse(2, day);
+        return point_day::refuse(numbers::OUT_OF_RANGE, day);
     }
     let stage = day.stage;
     if cannot_start(day.allotted, stage) {
-        return point_day::refuse(1, day);
+        return point_day::refuse(numbers::WRONG_STAGE, day);
     }
     let next = restart(day);
     Outcome {

@@ -6,13 +6,7 @@ use inventory_row::ROW;
 use point_day::KINDS;
 use point_day::PointDay;
 
-// The rows of the table of refusals that apply.
-const WRONG_STAGE: u8 = 1;
-
-const NOT_TAKEN: u8 = 2;
-
-const SHORT_BUFFER: u8 = 14;
-
+// The number of a refusal, or the count of rows.
 pub enum InventoryAnswer {
     Refused(u8),
     Rows(usize),
@@ -24,15 +18,15 @@ pub fn inventory(day: PointDay, out: &mut [i64]) -> InventoryAnswer
     ensures { λ r. ⌜ Afterwards (inventory day (now (out .entry))) (read day) (now (out .entry)) (now (out .exit)) ⌝ }
 {
     if !taken::is_taken(day) {
-        return InventoryAnswer::Refused(NOT_TAKEN);
+        return InventoryAnswer::Refused(numbers::OUT_OF_RANGE);
     }
     if !day.allotted {
-        return InventoryAnswer::Refused(WRONG_STAGE);
+        return InventoryAnswer::Refused(numbers::WRONG_STAGE);
     }
     let n = KINDS * day.count;
     let rows = inventory_cells::count_rows(&day.consumption, &day.losses, &day.balance, n);
     if out.len() < ROW * rows {
-        return InventoryAnswer::Refused(SHORT_BUFFER);
+        return InventoryAnswer::Refused(numbers::SHORT_BUFFER);
     }
     inventory_cells::write_rows(
         &day.users,

@@ -73,7 +73,7 @@ pub fn line_cell(
 {
     let added = line_losses(amount, coefficient);
     if LIMIT < offtake + (amount + added) {
-        return CellLine::Refused(6);
+        return CellLine::Refused(numbers::ABOVE_LIMIT);
     }
     let i = KINDS * slot + (kind as usize - 1);
     add_at(consumption, i, amount);

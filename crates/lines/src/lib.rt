@@ -54,21 +54,21 @@ pub fn line_test<'a>(
         balance,
         revision,
     ) {
-        return LineTest::Refused(2);
+        return LineTest::Refused(numbers::OUT_OF_RANGE);
     }
     if allotted {
-        return LineTest::Refused(1);
+        return LineTest::Refused(numbers::WRONG_STAGE);
     }
     if !line_cells::line_right(user, kind, amount, coefficient) {
-        return LineTest::Refused(2);
+        return LineTest::Refused(numbers::OUT_OF_RANGE);
     }
     let slot = state::slot_of(users, count, user);
     if slot == count {
-        return LineTest::Refused(3);
+        return LineTest::Refused(numbers::NOT_JOINED);
     }
     let added = line_cells::line_losses(amount, coefficient);
     if LIMIT < state::offtake(consumption, losses) + (amount + added) {
-        return LineTest::Refused(6);
+        return LineTest::Refused(numbers::ABOVE_LIMIT);
     }
     LineTest::Passed(KINDS * slot + (kind as usize - 1), added)
 }

@@ -38,14 +38,14 @@ pub fn measure(day: PointDay, emission: u64, downstream: u64) -> Outcome
     ensures { λ r. ⌜ outcome (answer-of (r .answer)) (r .day) ≡ called (measure emission downstream) day ⌝ }
 {
     if !taken::is_taken(day) {
-        return point_day::refuse(2, day);
+        return point_day::refuse(numbers::OUT_OF_RANGE, day);
     }
     let stage = day.stage;
     if measured_for_good(day.allotted, stage) {
-        return point_day::refuse(1, day);
+        return point_day::refuse(numbers::WRONG_STAGE, day);
     }
     if !state::emission_right(emission, downstream) {
-        return point_day::refuse(2, day);
+        return point_day::refuse(numbers::OUT_OF_RANGE, day);
     }
     let next = remeasure(day, emission, downstream);
     Outcome {

@@ -110,12 +110,12 @@ pub fn use_row<'a>(
     let row_users = &all_users[from..to];
     let row_amounts = &all_amounts[from..to];
     if columns::any_negative(row_amounts) {
-        return point_day::refuse(11, day);
+        return point_day::refuse(numbers::NEGATIVE_WEIGHT, day);
     }
     let shares = share_column(net, row_users, row_amounts);
     let next = opened(day, row_users, shares);
     if taken::any_too_large(next) {
-        return point_day::refuse(12, day);
+        return point_day::refuse(numbers::AMOUNT_TOO_LARGE, day);
     }
     Outcome {
         answer: Answer::RowsLookedAt(row + 1),

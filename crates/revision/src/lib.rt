@@ -40,11 +40,11 @@ pub fn revise_by(day: PointDay, tolerance: u64) -> Outcome
     ensures { λ r. ⌜ outcome (answer-of (r .answer)) (r .day) ≡ called (revise tolerance) day ⌝ }
 {
     if !taken::is_taken(day) {
-        return point_day::refuse(2, day);
+        return point_day::refuse(numbers::OUT_OF_RANGE, day);
     }
     let stage = day.stage;
     if !is_revisable(stage, day.allotted) {
-        return point_day::refuse(1, day);
+        return point_day::refuse(numbers::WRONG_STAGE, day);
     }
     let column = outstanding::whole_column(day);
     let amount = outstanding::outstanding(day, column);
@@ -52,7 +52,7 @@ pub fn revise_by(day: PointDay, tolerance: u64) -> Outcome
         return within(amount, day);
     }
     if columns::any_negative(&column) {
-        return point_day::refuse(11, day);
+        return point_day::refuse(numbers::NEGATIVE_WEIGHT, day);
     }
     assignment::assign(day, amount, column)
 }

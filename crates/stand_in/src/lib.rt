@@ -15,26 +15,26 @@ pub fn stand_in_by(day: PointDay, rows: StandInRows, tolerance: u64) -> Outcome
     ensures { λ r. ⌜ outcome (answer-of (r .answer)) (r .day) ≡ called (stand-in tolerance (rows-of rows)) day ⌝ }
 {
     if !taken::is_taken(day) {
-        return point_day::refuse(2, day);
+        return point_day::refuse(numbers::OUT_OF_RANGE, day);
     }
     let stage = day.stage;
     if !opening::is_open(stage, day.allotted, day.count) {
-        return point_day::refuse(1, day);
+        return point_day::refuse(numbers::WRONG_STAGE, day);
     }
     if !stand_in_rows::rows_right(&rows.counts, &rows.users, &rows.amounts) {
-        return point_day::refuse(2, day);
+        return point_day::refuse(numbers::OUT_OF_RANGE, day);
     }
     let measurement = day.measurement;
     if !state::is_measured(measurement) {
-        return point_day::refuse(7, day);
+        return point_day::refuse(numbers::UNMEASURED, day);
     }
     let net = state::net(measurement);
     if net <= tolerance {
-        return point_day::refuse(9, day);
+        return point_day::refuse(numbers::NET_TOO_LOW, day);
     }
     let row = stand_in_rows::nearest_filled(&rows.counts);
     if row == ROWS {
-        return point_day::refuse(10, day);
+        return point_day::refuse(numbers::NO_PAIR, day);
     }
     opening::use_row(day, net, row, &rows.counts, &rows.users, &rows.amounts)
 }
