@@ -1,8 +1,10 @@
 -- `split::leftover::serve_cut` meets its contract: a certified cut serves the ranks below `left`. Assumes nothing.
-use mathlib.Core.Path.{sym, ap, _∙_}
+use mathlib.Core.Path.{_≡_, ap, _∙_}
 use mathlib.Core.List.{_++_}
+use native.Mathlib.Omega.{arith}
 use lib.ListN.{length, drop}
 use Rattle.numbers.specs.Sums.{at}
+use Rattle.proration.specs.Proration.{before}
 use Rattle.split.proofs.leftover.Cut.{by-cut}
 use borrow.Author.Needs.{needs}
 use Rattle.split.proofs.leftover.serve_cut.Statement.{statement}
@@ -21,9 +23,10 @@ returns : tie.Need-returns
 returns c =
     let s = c .before .before .before .before .before .before .before .before .before .args in
     let n = length (s .rems .now) in
+    let certified : before (at (s .rems .now)) (at (s .keys .now)) n (s .x) 0 ≡ s .left =
+    omega (arith, c .before .before .before .before .before .count-ahead .ensures, c .before .before .before .before .if1 .taken) in
     c .before .before .serve-ahead .ensures
-    ∙ ap (λ t. t ++ drop n (s .shares .now))
-    (by-cut (at (s .rems .now)) (at (s .keys .now)) n (s .x) 0 (sym (c .before .before .before .before .before .count-ahead .ensures) ∙ c .before .before .before .before .if1 .taken) (at (s .shares .now)))
+    ∙ ap (λ t. t ++ drop n (s .shares .now)) (by-cut (at (s .rems .now)) (at (s .keys .now)) n (s .x) 0 certified (at (s .shares .now)))
 
 serve-ranked-requires : tie.Need-serve-ranked-requires
 serve-ranked-requires c κs = search needs
