@@ -5,7 +5,7 @@ use mathlib.Core.List.{List, [], _++_, map}
 use Prim.Native.Nat.{ℕ, zero, suc, _+_, _-_, _*_, _≤_, _<_}
 use native.Mathlib.Omega.{arith}
 use lib.IntN.{ℤ, pos, natAbs, _-ℤ_}
-use lib.ListN.{length, take, drop, replicate}
+use lib.ListN.{length, take, drop, replicate, length-replicate}
 use lib.Seq.{take-at}
 use mir.Syntax.{w64}
 use mir.Val.{ofZ, toZ, SFits}
@@ -52,9 +52,13 @@ module _ (net : ℕ) (cs ls : List ℤ) (users : List ℕ) (n : ℕ) (l : net �
 
 -- ---- the cells
 
-pub none-long : {xs : List ℤ} → xs ≡ padded CELLS (pos 0) [] → length xs ≡ CELLS
+-- zeros are the cells of nobody
+pub none-padded : {xs : List ℤ} → xs ≡ replicate CELLS (pos 0) → xs ≡ padded CELLS (pos 0) []
 unfolding padded
-none-long e = ap length e
+none-padded e = e
+
+pub none-long : {xs : List ℤ} → xs ≡ replicate CELLS (pos 0) → length xs ≡ CELLS
+none-long e = ap length e ∙ length-replicate CELLS (pos 0)
 
 module _ (cs ls : List ℤ) (s : ℕ) (c : length cs ≡ CELLS) (l : length ls ≡ CELLS) (m : s < USERS) where
   -- a share over the kinds is five cells

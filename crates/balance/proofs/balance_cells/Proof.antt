@@ -6,7 +6,7 @@ use Rattle.numbers.proofs.Amounts.{back}
 use Rattle.point_day.specs.Limits.{LIMIT}
 use Rattle.balance.specs.Slots.{balance-of}
 use Rattle.shares.proofs.Sharing.{shares-long, shares-within}
-use Rattle.balance.proofs.Cells.{balance-within, shares-back, none-long, cells-are}
+use Rattle.balance.proofs.Cells.{balance-within, shares-back, none-padded, none-long, cells-are}
 use native.Mathlib.Omega.{arith}
 use borrow.Author.Needs.{needs}
 use Rattle.balance.proofs.balance_cells.Statement.{statement}
@@ -71,7 +71,7 @@ returns c =
     let ls = a .losses .now in
     let us = a .users .now in
     let e = shares-back m cs ls us (a .n) (s .pre .0 .0) (s .pre .0 .1) (c .before .before .before .before .before .before .before .before .before .day-balance .ensures) _ (c .before .before .before .before .before .before .share-out .ensures .1) in
-    cells-are m cs ls us (a .n) (s .pre .0 .1) (s .pre .1 .1) (c .before .before .before .before .before .before .share-out .ensures .0) e (c .before .before .before .before .no-cells .ensures) (c .before .spread-all .ensures)
+    cells-are m cs ls us (a .n) (s .pre .0 .1) (s .pre .1 .1) (c .before .before .before .before .before .before .share-out .ensures .0) e (none-padded (c .before .before .before .before .no-cells .ensures)) (c .before .spread-all .ensures)
 
 pub balance-cells-spec : {M : Type 1} → statement M
 balance-cells-spec =
