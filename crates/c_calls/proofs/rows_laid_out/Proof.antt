@@ -1,4 +1,5 @@
 -- `c_calls::rows_laid_out` meets its contract. Assumes nothing.
+use Prim.Native.Nat.{_*_}
 use lib.ListN.{length}
 use borrow.Author.Tests.{eq-eqb, ne-eqb}
 use Rattle.point_day.specs.Limits.{USERS, ROWS}
