@@ -9,14 +9,14 @@ ghost use Rattle.point_day.specs.Calls.{join, line, measure, allot, revise, sta
 ghost use Rattle.point_day.specs.Struct.{read, called};
 ghost use Rattle.stand_in_rows.specs.Rows.{rows};
 ghost use Rattle.inventory.specs.Inventory.{Afterwards};
-ghost use Rattle.plain_day.specs.Layout.{LENGTH, day-in};
-ghost use Rattle.plain_calls.specs.Plain.{plain, given, plain-call, plain-fresh, rows-laid-out, misfits, rows-in, plain-stand-in};
+ghost use Rattle.plain_day.specs.Layout.{day-in};
+ghost use Rattle.plain_calls.specs.Plain.{plain, plain-call, plain-fresh, rows-laid-out, misfits, rows-in, plain-stand-in};
+ghost use Rattle.c_calls.specs.Status.{written, status-of};
 ghost use Rattle.plain_calls.specs.Listing.{plain-inventory, answer-number, counted};
 use inventory::InventoryAnswer;
 use numbers::OUT_OF_RANGE;
 use plain_day::LENGTH;
 use point_day::Answer;
-use point_day::Outcome;
 use point_day::PAIRS;
 use point_day::ROWS;
 use point_day::StandInRows;
@@ -117,24 +117,37 @@ fn rows_in(counts: &[usize], users: &[u16], amounts: &[i64]) -> StandInRows
 
 // ---- The calls: each answers 0, or document 01's number of the refusal, and then writes nothing
 
-// An outcome on lent numbers: a refusal writes nothing; an accepted call its value and the point-day afterwards.
-fn settle(day: &mut [i64], r: Outcome) -> u8
-    requires { ⌜ length (now day) ≡ LENGTH ⌝ }
-    ensures { λ s. ⌜ plain s (now (day .exit)) ≡ given (answer-of (r .answer)) (r .day) (now (day .entry)) ⌝ }
+// What an answer comes to in plain numbers: the number of a refusal, or the value that is written.
+pub struct Status {
+    pub refused: bool,
+    pub number: u8,
+    pub value: i64,
+}
+
+fn accepted(value: i64) -> Status
+    ensures { λ r. ⌜ r ≡ written value ⌝ }
 {
-    let answer = r.answer;
-    let after = r.day;
+    Status {
+        refused: false,
+        number: 0,
+        value: value,
+    }
+}
+
+fn status_of(answer: Answer) -> Status
+    ensures { λ r. ⌜ r ≡ status-of (answer-of answer) ⌝ }
+{
     match answer {
-        Answer::Refused(number) => number,
-        Answer::Done => day_to_numbers::write(day, 0, after),
-        Answer::LossesAdded(added) => day_to_numbers::write(day, wire::to_signed(added), after),
-        Answer::RowsLookedAt(seen) => day_to_numbers::write(
-            day,
-            wire::to_signed(seen as u64),
-            after,
-        ),
-        Answer::WithinTolerance(amount) => day_to_numbers::write(day, amount, after),
-        Answer::RevisionAssigned(amount) => day_to_numbers::write(day, amount, after),
+        Answer::Refused(number) => Status {
+            refused: true,
+            number: number,
+            value: 0,
+        },
+        Answer::Done => accepted(0),
+        Answer::LossesAdded(added) => accepted(wire::to_signed(added)),
+        Answer::RowsLookedAt(seen) => accepted(wire::to_signed(seen as u64)),
+        Answer::WithinTolerance(amount) => accepted(amount),
+        Answer::RevisionAssigned(amount) => accepted(amount),
     }
 }
 
@@ -158,7 +171,13 @@ pub extern "C" fn seatpomelo_join(day: &mut [i64], user: u16) -> u8
         return OUT_OF_RANGE;
     }
     let r = entry::join(numbers_to_day::day_in(day), user);
-    settle(day, r)
+    let answer = r.answer;
+    let status = status_of(answer);
+    if status.refused {
+        return status.number;
+    }
+    let after = r.day;
+    day_to_numbers::write(day, status.value, after)
 }
 
 // Line; its value is the losses added.
@@ -182,7 +201,13 @@ pub extern "C" fn seatpomelo_line(
         consumption,
         coefficient,
     );
-    settle(day, r)
+    let answer = r.answer;
+    let status = status_of(answer);
+    if status.refused {
+        return status.number;
+    }
+    let after = r.day;
+    day_to_numbers::write(day, status.value, after)
 }
 
 // Measure.
@@ -194,7 +219,13 @@ pub extern "C" fn seatpomelo_measure(day: &mut [i64], emission: u64, downstream:
         return OUT_OF_RANGE;
     }
     let r = measurement::measure(numbers_to_day::day_in(day), emission, downstream);
-    settle(day, r)
+    let answer = r.answer;
+    let status = status_of(answer);
+    if status.refused {
+        return status.number;
+    }
+    let after = r.day;
+    day_to_numbers::write(day, status.value, after)
 }
 
 // Allot.
@@ -206,7 +237,13 @@ pub extern "C" fn seatpomelo_allot(day: &mut [i64]) -> u8
         return OUT_OF_RANGE;
     }
     let r = allotment::allot(numbers_to_day::day_in(day));
-    settle(day, r)
+    let answer = r.answer;
+    let status = status_of(answer);
+    if status.refused {
+        return status.number;
+    }
+    let after = r.day;
+    day_to_numbers::write(day, status.value, after)
 }
 
 // Revise; its value is R.
@@ -218,7 +255,13 @@ pub extern "C" fn seatpomelo_revise(day: &mut [i64]) -> u8
         return OUT_OF_RANGE;
     }
     let r = revision::revise(numbers_to_day::day_in(day));
-    settle(day, r)
+    let answer = r.answer;
+    let status = status_of(answer);
+    if status.refused {
+        return status.number;
+    }
+    let after = r.day;
+    day_to_numbers::write(day, status.value, after)
 }
 
 // Start-final.
@@ -230,7 +273,13 @@ pub extern "C" fn seatpomelo_start_final(day: &mut [i64]) -> u8
         return OUT_OF_RANGE;
     }
     let r = final_stage::start_final(numbers_to_day::day_in(day));
-    settle(day, r)
+    let answer = r.answer;
+    let status = status_of(answer);
+    if status.refused {
+        return status.number;
+    }
+    let after = r.day;
+    day_to_numbers::write(day, status.value, after)
 }
 
 // Stand-in, with its rows in three lists; its value is the rows looked at.
@@ -248,7 +297,13 @@ pub extern "C" fn seatpomelo_stand_in(
     }
     let rows = rows_in(counts, users, amounts);
     let r = stand_in::stand_in(numbers_to_day::day_in(day), rows);
-    settle(day, r)
+    let answer = r.answer;
+    let status = status_of(answer);
+    if status.refused {
+        return status.number;
+    }
+    let after = r.day;
+    day_to_numbers::write(day, status.value, after)
 }
 
 // An accepted call that changes no point-day: its value alone is written. The answer is 0.

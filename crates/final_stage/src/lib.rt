@@ -50,14 +50,16 @@ fn restart(day: PointDay) -> PointDay
 {
     let before = day.stage;
     let stage = next_stage(before);
-    let none = point_day::no_cells();
+    let consumption = point_day::no_cells();
+    let losses = point_day::no_cells();
+    let balance = point_day::no_cells();
     let unrevised = point_day::no_amounts();
     PointDay {
         stage: stage,
         allotted: false,
-        consumption: none,
-        losses: none,
-        balance: none,
+        consumption: consumption,
+        losses: losses,
+        balance: balance,
         revision: unrevised,
         ..day
     }

@@ -78,14 +78,16 @@ pub fn opened(day: PointDay, users: &[u16], shares: [i64; USERS]) -> PointDay
 {
     let count = users.len();
     let column = user_column(users);
-    let none = point_day::no_cells();
+    let consumption = point_day::no_cells();
+    let losses = point_day::no_cells();
+    let balance = point_day::no_cells();
     PointDay {
         allotted: true,
         count: count,
         users: column,
-        consumption: none,
-        losses: none,
-        balance: none,
+        consumption: consumption,
+        losses: losses,
+        balance: balance,
         revision: shares,
         ..day
     }
