@@ -37,11 +37,25 @@ pub fn programs() -> Vec<Program> {
             inputs: vec![
                 Input {
                     operations: ALL,
-                    make: |vectors| cases::replay::stdin(ReplayOperations::All, vectors),
+                    make: |vectors| cases::replay::lists(ReplayOperations::All, vectors),
                 },
                 Input {
                     operations: "basic",
-                    make: |vectors| cases::replay::stdin(ReplayOperations::Basic, vectors),
+                    make: |vectors| cases::replay::lists(ReplayOperations::Basic, vectors),
+                },
+            ],
+        },
+        Program {
+            name: "replay_loads",
+            run: replay::run,
+            inputs: vec![
+                Input {
+                    operations: ALL,
+                    make: |vectors| cases::replay::loads(ReplayOperations::All, vectors),
+                },
+                Input {
+                    operations: "basic",
+                    make: |vectors| cases::replay::loads(ReplayOperations::Basic, vectors),
                 },
             ],
         },
@@ -51,11 +65,25 @@ pub fn programs() -> Vec<Program> {
             inputs: vec![
                 Input {
                     operations: ALL,
-                    make: |vectors| cases::estimate::stdin(EstimateOperations::All, vectors),
+                    make: |_| Ok(cases::estimate::own(EstimateOperations::All)),
                 },
                 Input {
                     operations: "supply",
-                    make: |vectors| cases::estimate::stdin(EstimateOperations::Supply, vectors),
+                    make: |_| Ok(cases::estimate::own(EstimateOperations::Supply)),
+                },
+            ],
+        },
+        Program {
+            name: "estimate_vectors",
+            run: estimate::run,
+            inputs: vec![
+                Input {
+                    operations: ALL,
+                    make: |vectors| cases::estimate::vectors(EstimateOperations::All, vectors),
+                },
+                Input {
+                    operations: "supply",
+                    make: |vectors| cases::estimate::vectors(EstimateOperations::Supply, vectors),
                 },
             ],
         },

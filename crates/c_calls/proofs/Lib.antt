@@ -1,1 +1,5 @@
 pub mod Statuses
+pub mod Outcomes
+pub mod Refusals
+pub mod Listed
+pub mod ReadBack

@@ -7,7 +7,7 @@ use Rattle.numbers.proofs.Lists.{true≢false, never}
 use Rattle.point_day.specs.Answers.{Answer, refused, done, losses-added, rows-looked-at, within-tolerance, revision-assigned}
 use Rattle.point_day.specs.declared.PointDay.{PointDay}
 use Rattle.plain_day.specs.Layout.{numbers-of}
-use Rattle.plain_calls.specs.Plain.{plain, given}
+use Rattle.c_calls.specs.Plain.{plain, given}
 use Rattle.c_calls.specs.Status.{status-of}
 
 pub refuses : (a : Answer) → status-of a .refused ≡ true → (d : PointDay) (xs : List ℤ) → plain (status-of a .number) xs ≡ given a d xs

@@ -1,1 +1,4 @@
 pub mod Status
+pub mod Plain
+pub mod Listing
+pub mod Cases

@@ -1,119 +1,23 @@
 // The calls with C names, on a point-day in plain numbers that the caller lends.
 ghost use mathlib.Core.Path.{_≡_};
-ghost use Prim.Native.Nat.{_*_, _<_};
-ghost use lib.IntN.{pos};
-ghost use lib.ListN.{length, set, replicate};
-ghost use Rattle.point_day.specs.Limits.{USERS, ROWS, TOLERANCE};
+ghost use Prim.Native.Nat.{_<_};
+ghost use lib.ListN.{length, set};
+ghost use Rattle.point_day.specs.Limits.{TOLERANCE};
 ghost use Rattle.point_day.specs.Answers.{answer-of};
 ghost use Rattle.point_day.specs.Calls.{join, line, measure, allot, revise, start-final};
 ghost use Rattle.point_day.specs.Struct.{read, called};
-ghost use Rattle.stand_in_rows.specs.Rows.{rows};
 ghost use Rattle.inventory.specs.Inventory.{Afterwards};
 ghost use Rattle.plain_day.specs.Layout.{day-in};
-ghost use Rattle.plain_calls.specs.Plain.{plain, plain-call, plain-fresh, rows-laid-out, misfits, rows-in, plain-stand-in};
+ghost use Rattle.c_calls.specs.Plain.{plain, plain-call, plain-fresh, plain-stand-in};
 ghost use Rattle.c_calls.specs.Status.{written, status-of};
-ghost use Rattle.plain_calls.specs.Listing.{plain-inventory, answer-number, counted};
+ghost use Rattle.c_calls.specs.Listing.{plain-inventory, answer-number, counted};
 use inventory::InventoryAnswer;
 use numbers::OUT_OF_RANGE;
 use plain_day::LENGTH;
+use plain_day::from_numbers;
+use plain_day::to_numbers;
 use point_day::Answer;
-use point_day::PAIRS;
-use point_day::ROWS;
-use point_day::StandInRows;
-use point_day::USERS;
-
-// ---- The rows of a stand-in
-
-fn rows_laid_out(counts: &[usize], users: &[u16], amounts: &[i64]) -> bool
-    ensures { λ r. ⌜ r ≡ rows-laid-out (now (counts .entry)) (now (users .entry)) (now (amounts .entry)) ⌝ }
-{
-    if counts.len() != ROWS {
-        return false;
-    }
-    if users.len() != PAIRS {
-        return false;
-    }
-    amounts.len() == PAIRS
-}
-
-fn put_counts(out: &mut [usize], xs: &[usize])
-    requires { ⌜ length (now out) ≡ length (now xs) ⌝ }
-    ensures { λ _. ⌜ now (out .exit) ≡ now (xs .entry) ⌝ }
-{
-    let mut i = 0;
-    while i < xs.len() {
-        out[i] = xs[i];
-        i += 1;
-    }
-}
-
-fn put_pair_users(out: &mut [u16], xs: &[u16])
-    requires { ⌜ length (now out) ≡ length (now xs) ⌝ }
-    ensures { λ _. ⌜ now (out .exit) ≡ now (xs .entry) ⌝ }
-{
-    let mut i = 0;
-    while i < xs.len() {
-        out[i] = xs[i];
-        i += 1;
-    }
-}
-
-// One count for all rows, and zeros. (Calls, so that no proof above sees their elements one by one.)
-fn all_counts(n: usize) -> [usize; ROWS]
-    ensures { λ r. ⌜ r ≡ replicate ROWS n ⌝ }
-{
-    [n; ROWS]
-}
-
-fn no_pair_users() -> [u16; PAIRS]
-    ensures { λ r. ⌜ r ≡ replicate (USERS * ROWS) 0 ⌝ }
-{
-    [0; PAIRS]
-}
-
-fn no_pair_amounts() -> [i64; PAIRS]
-    ensures { λ r. ⌜ r ≡ replicate (USERS * ROWS) (pos 0) ⌝ }
-{
-    [0; PAIRS]
-}
-
-fn copied_rows(counts: &[usize], users: &[u16], amounts: &[i64]) -> StandInRows
-    requires { ⌜ (length (now counts) ≡ ROWS) × (length (now users) ≡ USERS * ROWS) × (length (now amounts) ≡ USERS * ROWS) ⌝ }
-    ensures { λ r. ⌜ r ≡ rows (now (counts .entry)) (now (users .entry)) (now (amounts .entry)) ⌝ }
-{
-    let mut row_counts = all_counts(0);
-    let mut pair_users = no_pair_users();
-    let mut pair_amounts = no_pair_amounts();
-    put_counts(&mut row_counts, counts);
-    put_pair_users(&mut pair_users, users);
-    plain_day::put(&mut pair_amounts, 0, amounts);
-    StandInRows {
-        counts: row_counts,
-        users: pair_users,
-        amounts: pair_amounts,
-    }
-}
-
-// Rows outside their stated range: each is a pair of user 0.
-fn misfits() -> StandInRows
-    ensures { λ r. ⌜ r ≡ misfits ⌝ }
-{
-    StandInRows {
-        counts: all_counts(1),
-        users: no_pair_users(),
-        amounts: no_pair_amounts(),
-    }
-}
-
-// The rows that three lists hold; lists of other lengths are rows outside their stated range.
-fn rows_in(counts: &[usize], users: &[u16], amounts: &[i64]) -> StandInRows
-    ensures { λ r. ⌜ r ≡ rows-in (now (counts .entry)) (now (users .entry)) (now (amounts .entry)) ⌝ }
-{
-    if !rows_laid_out(counts, users, amounts) {
-        return misfits();
-    }
-    copied_rows(counts, users, amounts)
-}
+use point_day::TOLERANCE;
 
 // ---- The calls: each answers 0, or document 01's number of the refusal, and then writes nothing
 
@@ -159,7 +63,7 @@ pub extern "C" fn seatpomelo_fresh(day: &mut [i64]) -> u8
     if day.len() != LENGTH {
         return OUT_OF_RANGE;
     }
-    day_to_numbers::write(day, 0, point_day::fresh_day())
+    to_numbers::write(day, 0, point_day::fresh_day())
 }
 
 // Join.
@@ -167,17 +71,17 @@ pub extern "C" fn seatpomelo_fresh(day: &mut [i64]) -> u8
 pub extern "C" fn seatpomelo_join(day: &mut [i64], user: u16) -> u8
     ensures { λ r. ⌜ plain r (now (day .exit)) ≡ plain-call (called (join user)) (now (day .entry)) ⌝ }
 {
-    if !plain_day::is_laid_out(day) {
+    if !plain_day::is_readable(day) {
         return OUT_OF_RANGE;
     }
-    let r = entry::join(numbers_to_day::day_in(day), user);
+    let r = join::join(from_numbers::day_in(day), user);
     let answer = r.answer;
     let status = status_of(answer);
     if status.refused {
         return status.number;
     }
     let after = r.day;
-    day_to_numbers::write(day, status.value, after)
+    to_numbers::write(day, status.value, after)
 }
 
 // Line; its value is the losses added.
@@ -191,11 +95,11 @@ pub extern "C" fn seatpomelo_line(
 ) -> u8
     ensures { λ r. ⌜ plain r (now (day .exit)) ≡ plain-call (called (line user kind consumption coefficient)) (now (day .entry)) ⌝ }
 {
-    if !plain_day::is_laid_out(day) {
+    if !plain_day::is_readable(day) {
         return OUT_OF_RANGE;
     }
-    let r = lines::line(
-        numbers_to_day::day_in(day),
+    let r = line::line(
+        from_numbers::day_in(day),
         user,
         kind,
         consumption,
@@ -207,7 +111,7 @@ pub extern "C" fn seatpomelo_line(
         return status.number;
     }
     let after = r.day;
-    day_to_numbers::write(day, status.value, after)
+    to_numbers::write(day, status.value, after)
 }
 
 // Measure.
@@ -215,17 +119,17 @@ pub extern "C" fn seatpomelo_line(
 pub extern "C" fn seatpomelo_measure(day: &mut [i64], emission: u64, downstream: u64) -> u8
     ensures { λ r. ⌜ plain r (now (day .exit)) ≡ plain-call (called (measure emission downstream)) (now (day .entry)) ⌝ }
 {
-    if !plain_day::is_laid_out(day) {
+    if !plain_day::is_readable(day) {
         return OUT_OF_RANGE;
     }
-    let r = measurement::measure(numbers_to_day::day_in(day), emission, downstream);
+    let r = measure::measure(from_numbers::day_in(day), emission, downstream);
     let answer = r.answer;
     let status = status_of(answer);
     if status.refused {
         return status.number;
     }
     let after = r.day;
-    day_to_numbers::write(day, status.value, after)
+    to_numbers::write(day, status.value, after)
 }
 
 // Allot.
@@ -233,17 +137,17 @@ pub extern "C" fn seatpomelo_measure(day: &mut [i64], emission: u64, downstream:
 pub extern "C" fn seatpomelo_allot(day: &mut [i64]) -> u8
     ensures { λ r. ⌜ plain r (now (day .exit)) ≡ plain-call (called allot) (now (day .entry)) ⌝ }
 {
-    if !plain_day::is_laid_out(day) {
+    if !plain_day::is_readable(day) {
         return OUT_OF_RANGE;
     }
-    let r = allotment::allot(numbers_to_day::day_in(day));
+    let r = allot::allot(from_numbers::day_in(day));
     let answer = r.answer;
     let status = status_of(answer);
     if status.refused {
         return status.number;
     }
     let after = r.day;
-    day_to_numbers::write(day, status.value, after)
+    to_numbers::write(day, status.value, after)
 }
 
 // Revise; its value is R.
@@ -251,17 +155,17 @@ pub extern "C" fn seatpomelo_allot(day: &mut [i64]) -> u8
 pub extern "C" fn seatpomelo_revise(day: &mut [i64]) -> u8
     ensures { λ r. ⌜ plain r (now (day .exit)) ≡ plain-call (called (revise TOLERANCE)) (now (day .entry)) ⌝ }
 {
-    if !plain_day::is_laid_out(day) {
+    if !plain_day::is_readable(day) {
         return OUT_OF_RANGE;
     }
-    let r = revision::revise(numbers_to_day::day_in(day));
+    let r = revise::revise(from_numbers::day_in(day));
     let answer = r.answer;
     let status = status_of(answer);
     if status.refused {
         return status.number;
     }
     let after = r.day;
-    day_to_numbers::write(day, status.value, after)
+    to_numbers::write(day, status.value, after)
 }
 
 // Start-final.
@@ -269,41 +173,40 @@ pub extern "C" fn seatpomelo_revise(day: &mut [i64]) -> u8
 pub extern "C" fn seatpomelo_start_final(day: &mut [i64]) -> u8
     ensures { λ r. ⌜ plain r (now (day .exit)) ≡ plain-call (called start-final) (now (day .entry)) ⌝ }
 {
-    if !plain_day::is_laid_out(day) {
+    if !plain_day::is_readable(day) {
         return OUT_OF_RANGE;
     }
-    let r = final_stage::start_final(numbers_to_day::day_in(day));
+    let r = start_final::start_final(from_numbers::day_in(day));
     let answer = r.answer;
     let status = status_of(answer);
     if status.refused {
         return status.number;
     }
     let after = r.day;
-    day_to_numbers::write(day, status.value, after)
+    to_numbers::write(day, status.value, after)
 }
 
 // Stand-in, with its rows in three lists; its value is the rows looked at.
 #[no_mangle]
-pub extern "C" fn seatpomelo_stand_in(
+pub extern "C" fn seatpomelo_stand_in<'a>(
     day: &mut [i64],
-    counts: &[usize],
-    users: &[u16],
-    amounts: &[i64],
+    counts: &'a [usize],
+    users: &'a [u16],
+    amounts: &'a [i64],
 ) -> u8
     ensures { λ r. ⌜ plain r (now (day .exit)) ≡ plain-stand-in (now (counts .entry)) (now (users .entry)) (now (amounts .entry)) (now (day .entry)) ⌝ }
 {
-    if !plain_day::is_laid_out(day) {
+    if !plain_day::is_readable(day) {
         return OUT_OF_RANGE;
     }
-    let rows = rows_in(counts, users, amounts);
-    let r = stand_in::stand_in(numbers_to_day::day_in(day), rows);
+    let r = stand_in::stand_in_lists(from_numbers::day_in(day), counts, users, amounts, TOLERANCE);
     let answer = r.answer;
     let status = status_of(answer);
     if status.refused {
         return status.number;
     }
     let after = r.day;
-    day_to_numbers::write(day, status.value, after)
+    to_numbers::write(day, status.value, after)
 }
 
 // An accepted call that changes no point-day: its value alone is written. The answer is 0.
@@ -323,10 +226,10 @@ pub extern "C" fn seatpomelo_inventory(day: &mut [i64], out: &mut [i64]) -> u8
     ensures { λ r. ⌜ now (day .exit) ≡ counted (plain-inventory (now (day .entry)) (now (out .entry))) (now (day .entry)) ⌝ }
     ensures { λ r. ⌜ Afterwards (plain-inventory (now (day .entry)) (now (out .entry))) (read (day-in (now (day .entry)))) (now (out .entry)) (now (out .exit)) ⌝ }
 {
-    if !plain_day::is_laid_out(day) {
+    if !plain_day::is_readable(day) {
         return OUT_OF_RANGE;
     }
-    let answer = inventory::inventory(numbers_to_day::day_in(day), out);
+    let answer = inventory::inventory(from_numbers::day_in(day), out);
     match answer {
         InventoryAnswer::Refused(number) => number,
         InventoryAnswer::Rows(count) => write_value(day, wire::to_signed(count as u64)),

@@ -1,19 +1,18 @@
--- Columns padded with zeros: their length, their tests, sums, and two of them added. Assumes nothing.
+-- Columns padded with zeros: their length, their tests, and two of them added. Assumes nothing.
 use mathlib.Core.Path.{_≡_, refl, sym, ap, ap₂, _∙_}
 use mathlib.Core.Bool.{Bool, true}
-use mathlib.Core.List.{List, [], _∷_, _++_, append-nil}
+use mathlib.Core.List.{List, [], _∷_, _++_, zipWith}
 use mathlib.Core.Logic.{⊎-elim}
 use Prim.Native.Nat.{ℕ, zero, suc, _+_, _-_, _≤_, _<_}
 use native.Mathlib.Omega.{arith}
-use lib.IntN.{ℤ, pos, natAbs, _+ℤ_, +ℤ-idl}
-use lib.ListN.{length, take, drop, replicate, length-append, length-replicate, drop-of-length-le, List·getD-eq-default, replicate-append-replicate}
-use lib.Seq.{take-at, ext-getD}
-use Rattle.numbers.specs.Sums.{table, atZ, totalZ}
-use Rattle.numbers.specs.Lists.{both, every, zip}
+use lib.IntN.{ℤ, pos, natAbs, _+ℤ_}
+use lib.ListN.{length, drop, replicate, length-append, length-replicate, List·getD-eq-default, replicate-append-replicate}
+use lib.Seq.{ext-getD}
+use Rattle.numbers.specs.Sums.{table, atZ}
+use Rattle.numbers.specs.Lists.{both, every}
 use Rattle.numbers.specs.Amounts.{Within}
 use Rattle.numbers.proofs.Sums.{lt-or-ge, length-table, getD-table}
 use Rattle.numbers.proofs.Lists.{All, zip-length}
-use Rattle.numbers.proofs.Amounts.{within-add}
 use Rattle.point_day.specs.Struct.{padded}
 use Rattle.point_day.proofs.Each.{all-at, zip-at}
 
@@ -41,10 +40,6 @@ module _ {A : Type 0} (x : A) (N : ℕ) where
   unfolding padded
   padded-long xs l = length-append xs (replicate (N - length xs) x) ∙ omega (arith, length-replicate {A = A} (N - length xs) x)
 
-  pub padded-start : (n : ℕ) (xs : List A) → length xs ≡ n → take n (padded N x xs) ≡ xs
-  unfolding padded
-  padded-start n xs l = take-at xs (replicate (N - length xs) x) n l
-
   pub padded-every : (p : A → Bool) → p x ≡ true → (xs : List A) → every p (padded N x xs) ≡ every p xs
   unfolding padded every
   padded-every p e xs = go xs (N - length xs)
@@ -61,15 +56,6 @@ module _ {A : Type 0} (x : A) (N : ℕ) where
       rw (length-replicate {A = A} n x) (replicate-append-replicate n (N - n) x ∙ ap (λ m. replicate m x) e)
 
 -- ---- amounts
-
-pub padded-total : (N : ℕ) (zs : List ℤ) → totalZ (padded N (pos 0) zs) ≡ totalZ zs
-unfolding padded totalZ
-padded-total N zs = go zs (N - length zs)
-  where
-    go : (zs : List ℤ) (k : ℕ) → totalZ (zs ++ replicate k (pos 0)) ≡ totalZ zs
-    go [] zero = refl
-    go [] (suc k) = +ℤ-idl (totalZ (replicate k (pos 0))) ∙ go [] k
-    go (z ∷ zs) k = ap (λ t. z +ℤ t) (go zs k)
 
 -- every place of a list, past its end too
 pub all-within : (m : ℕ) (zs : List ℤ) → All (λ z. natAbs z ≤ m) zs → (i : ℕ) → Within m (atZ zs i)
@@ -88,40 +74,28 @@ padded-within m N zs h = all-within m (zs ++ replicate (N - length zs) (pos 0)) 
 
 -- ---- two columns added
 
--- place by place, over the start of the first
-pub zip-places : (n : ℕ) (xs ys : List ℤ) {e : List ℤ} → length xs ≡ n → length ys ≡ n
-    → e ≡ table (λ i. atZ xs i +ℤ atZ ys i) (length ys) ++ drop (length ys) xs → e ≡ zip _+ℤ_ xs ys
-zip-places n xs ys l m h =
-    h
-    ∙ ap (λ t. table (λ i. atZ xs i +ℤ atZ ys i) (length ys) ++ t) (drop-of-length-le xs {i = length ys} (omega arith))
-    ∙ append-nil (table (λ i. atZ xs i +ℤ atZ ys i) (length ys))
-    ∙ ext-getD (pos 0) _ (zip _+ℤ_ xs ys) (length-table _ (length ys) ∙ m ∙ sym l ∙ sym (zip-length _+ℤ_ xs ys (l ∙ sym m)))
+-- place by place, the second standing at the start of a buffer
+pub zip-table : (xs ys zs : List ℤ) → length xs ≡ length ys → ((i : ℕ) → i < length xs → atZ zs i ≡ atZ ys i)
+    → table (λ i. atZ xs i +ℤ atZ zs i) (length xs) ≡ zipWith _+ℤ_ xs ys
+zip-table xs ys zs l h =
+    ext-getD (pos 0) _ (zipWith _+ℤ_ xs ys) (length-table _ (length xs) ∙ sym (zip-length _+ℤ_ xs ys l))
     (λ i k.
-    let q : i < length ys = omega (arith, length-table (λ i. atZ xs i +ℤ atZ ys i) (length ys)) in
-    getD-table _ (length ys) i (pos 0) q ∙ sym (zip-at _+ℤ_ (pos 0) (pos 0) (pos 0) xs ys (l ∙ sym m) i (omega arith)))
+    let q : i < length xs = omega (arith, length-table (λ i. atZ xs i +ℤ atZ zs i) (length xs)) in
+    getD-table _ (length xs) i (pos 0) q ∙ ap (λ z. atZ xs i +ℤ z) (h i q) ∙ sym (zip-at _+ℤ_ (pos 0) (pos 0) (pos 0) xs ys l i q))
 
-pub zip-padded : (N : ℕ) (xs ys : List ℤ) → length xs ≡ length ys → zip _+ℤ_ (padded N (pos 0) xs) (padded N (pos 0) ys) ≡ padded N (pos 0) (zip _+ℤ_ xs ys)
-unfolding padded zip
+pub zip-padded : (N : ℕ) (xs ys : List ℤ) → length xs ≡ length ys → zipWith _+ℤ_ (padded N (pos 0) xs) (padded N (pos 0) ys) ≡ padded N (pos 0) (zipWith _+ℤ_ xs ys)
+unfolding padded zipWith
 zip-padded N xs ys e =
-    ap (λ n. zip _+ℤ_ (xs ++ replicate (N - length xs) (pos 0)) (ys ++ replicate (N - n) (pos 0))) (sym e)
+    ap (λ n. zipWith _+ℤ_ (xs ++ replicate (N - length xs) (pos 0)) (ys ++ replicate (N - n) (pos 0))) (sym e)
     ∙ go xs ys e (N - length xs)
-    ∙ ap (λ n. zip _+ℤ_ xs ys ++ replicate (N - n) (pos 0)) (sym (zip-length _+ℤ_ xs ys e))
+    ∙ ap (λ n. zipWith _+ℤ_ xs ys ++ replicate (N - n) (pos 0)) (sym (zip-length _+ℤ_ xs ys e))
   where
-    zeros : (k : ℕ) → zip _+ℤ_ (replicate k (pos 0)) (replicate k (pos 0)) ≡ replicate k (pos 0)
+    zeros : (k : ℕ) → zipWith _+ℤ_ (replicate k (pos 0)) (replicate k (pos 0)) ≡ replicate k (pos 0)
     zeros zero = refl
     zeros (suc k) = ap (λ t. pos 0 ∷ t) (zeros k)
 
-    go : (xs ys : List ℤ) → length xs ≡ length ys → (k : ℕ) → zip _+ℤ_ (xs ++ replicate k (pos 0)) (ys ++ replicate k (pos 0)) ≡ zip _+ℤ_ xs ys ++ replicate k (pos 0)
+    go : (xs ys : List ℤ) → length xs ≡ length ys → (k : ℕ) → zipWith _+ℤ_ (xs ++ replicate k (pos 0)) (ys ++ replicate k (pos 0)) ≡ zipWith _+ℤ_ xs ys ++ replicate k (pos 0)
     go [] [] e k = zeros k
     go [] (y ∷ ys) e k = absurd (omega arith)
     go (x ∷ xs) [] e k = absurd (omega arith)
     go (x ∷ xs) (y ∷ ys) e k = ap (λ t. (x +ℤ y) ∷ t) (go xs ys (omega arith) k)
-
--- ---- how large the sums are
-
-pub zip-within : (m n : ℕ) (xs ys : List ℤ) → ((i : ℕ) → Within m (atZ xs i)) → ((i : ℕ) → Within n (atZ ys i)) → length xs ≡ length ys → (i : ℕ) → Within (m + n) (atZ (zip _+ℤ_ xs ys) i)
-zip-within m n xs ys h k e i =
-    ⊎-elim
-    (λ l. rw (zip-at _+ℤ_ (pos 0) (pos 0) (pos 0) xs ys e i l) (within-add (h i) (k i)))
-    (λ l. rw (List·getD-eq-default (zip _+ℤ_ xs ys) (pos 0) {n = i} (omega (arith, zip-length _+ℤ_ xs ys e))) record { size = omega arith })
-    (lt-or-ge i (length xs))

@@ -1,4 +1,6 @@
 // Columns of a point-day's users: one number or amount for each user.
+pub mod shares;
+
 ghost use mathlib.Core.Path.{_≡_};
 ghost use mathlib.Core.List.{map, _++_};
 ghost use Prim.Native.Nat.{ℕ, _≤_, _<_};
@@ -10,7 +12,7 @@ ghost use Rattle.numbers.specs.Amounts.{Within};
 ghost use Rattle.point_day.specs.Limits.{USERS, AMOUNT};
 ghost use Rattle.point_day.specs.Day.{no-more};
 ghost use Rattle.point_day.specs.Calls.{negative};
-ghost use Rattle.columns.specs.Rooms.{ROOM};
+ghost use Rattle.columns.specs.Summable.{SUMMABLE};
 use point_day::AMOUNT;
 use point_day::USERS;
 
@@ -49,7 +51,7 @@ pub fn keys_of(users: &[u16], keys: &mut [u64])
 
 // The sizes of the amounts; later numbers stay.
 pub fn sizes_of(amounts: &[i64], sizes: &mut [u64])
-    requires { ⌜ (length (now amounts) ≤ length (now sizes)) × ((i : ℕ) → Within ROOM (atZ (now amounts) i)) ⌝ }
+    requires { ⌜ (length (now amounts) ≤ length (now sizes)) × ((i : ℕ) → Within SUMMABLE (atZ (now amounts) i)) ⌝ }
     ensures { λ _. ⌜ now (sizes .exit) ≡ map natAbs (now (amounts .entry)) ++ drop (length (now (amounts .entry))) (now (sizes .entry)) ⌝ }
 {
     let mut i = 0;

@@ -1,9 +1,9 @@
-// Numbers taken from the input one after the other, little-endian, and the buffer lent to a call.
+// Numbers read from the input one after the other, little-endian, and the buffer lent to a call.
 ghost use mathlib.Core.Path.{_≡_};
 ghost use Prim.Native.Nat.{_≤_, _<_};
 ghost use lib.IntN.{pos};
 ghost use lib.ListN.{length, replicate};
-ghost use Rattle.console.specs.Taking.{failed, left, passed, taken, limited, after, amounts, MOST-LENT, lent};
+ghost use Rattle.console.specs.Input.{good, failed, left, passed, read, limited, after, amounts, Onward, MOST-LENT, lent};
 
 // The most numbers of a buffer that a program lends to a call.
 pub const MOST_LENT: usize = 2000;
@@ -20,15 +20,25 @@ pub struct Number {
     pub next: Cursor,
 }
 
-// Nothing more is to be taken.
-pub fn failed(at: usize) -> Cursor
-    ensures { λ r. ⌜ r ≡ failed at ⌝ }
+// The first place.
+pub fn start() -> Cursor
+    ensures { λ r. ⌜ r ≡ good 0 ⌝ }
 {
-    Cursor { at, ok: false }
+    Cursor { at: 0, ok: true }
 }
 
-// Whether so many bytes are there to be taken.
-fn has_left(input: &[u8], from: Cursor, bytes: usize) -> bool
+// Nothing more is to be read.
+pub fn failed(from: Cursor) -> Cursor
+    ensures { λ r. ⌜ (r ≡ failed (from .at)) × Onward from r ⌝ }
+{
+    Cursor {
+        at: from.at,
+        ok: false,
+    }
+}
+
+// Whether so many bytes are there to be read.
+pub fn has_left(input: &[u8], from: Cursor, bytes: usize) -> bool
     ensures { λ r. ⌜ r ≡ left (now (input .entry)) from bytes ⌝ }
 {
     let at = from.at;
@@ -43,11 +53,11 @@ fn has_left(input: &[u8], from: Cursor, bytes: usize) -> bool
 
 // Passes over some bytes.
 pub fn pass(input: &[u8], from: Cursor, bytes: usize) -> Cursor
-    ensures { λ r. ⌜ r ≡ passed (now (input .entry)) from bytes ⌝ }
+    ensures { λ r. ⌜ (r ≡ passed (now (input .entry)) from bytes) × Onward from r ⌝ }
 {
     let at = from.at;
     if !has_left(input, from, bytes) {
-        return failed(at);
+        return failed(from);
     }
     Cursor {
         at: at + bytes,
@@ -56,23 +66,23 @@ pub fn pass(input: &[u8], from: Cursor, bytes: usize) -> Cursor
 }
 
 // No number, for what is cut short.
-fn no_number(at: usize) -> Number
-    ensures { λ r. ⌜ r ≡ record { value = 0; next = failed at } ⌝ }
+fn no_number(from: Cursor) -> Number
+    ensures { λ r. ⌜ (r ≡ record { value = 0; next = failed (from .at) }) × Onward from (r .next) ⌝ }
 {
     Number {
         value: 0,
-        next: failed(at),
+        next: failed(from),
     }
 }
 
 // The next bytes as a number.
 
-pub fn take_u8(input: &[u8], from: Cursor) -> Number
-    ensures { λ r. ⌜ (r ≡ taken (now (input .entry)) from 1) × (r .value < 256) ⌝ }
+pub fn read_u8(input: &[u8], from: Cursor) -> Number
+    ensures { λ r. ⌜ (r ≡ read (now (input .entry)) from 1) × (r .value < 256) × Onward from (r .next) ⌝ }
 {
     let at = from.at;
     if !has_left(input, from, 1) {
-        return no_number(at);
+        return no_number(from);
     }
     let value = wire::read_u8(input, at);
     let next = Cursor {
@@ -82,12 +92,12 @@ pub fn take_u8(input: &[u8], from: Cursor) -> Number
     Number { value, next }
 }
 
-pub fn take_u16(input: &[u8], from: Cursor) -> Number
-    ensures { λ r. ⌜ (r ≡ taken (now (input .entry)) from 2) × (r .value < 65536) ⌝ }
+pub fn read_u16(input: &[u8], from: Cursor) -> Number
+    ensures { λ r. ⌜ (r ≡ read (now (input .entry)) from 2) × (r .value < 65536) × Onward from (r .next) ⌝ }
 {
     let at = from.at;
     if !has_left(input, from, 2) {
-        return no_number(at);
+        return no_number(from);
     }
     let value = wire::read_u16(input, at);
     let next = Cursor {
@@ -97,12 +107,12 @@ pub fn take_u16(input: &[u8], from: Cursor) -> Number
     Number { value, next }
 }
 
-pub fn take_u32(input: &[u8], from: Cursor) -> Number
-    ensures { λ r. ⌜ (r ≡ taken (now (input .entry)) from 4) × (r .value < 4294967296) ⌝ }
+pub fn read_u32(input: &[u8], from: Cursor) -> Number
+    ensures { λ r. ⌜ (r ≡ read (now (input .entry)) from 4) × (r .value < 4294967296) × Onward from (r .next) ⌝ }
 {
     let at = from.at;
     if !has_left(input, from, 4) {
-        return no_number(at);
+        return no_number(from);
     }
     let value = wire::read_u32(input, at);
     let next = Cursor {
@@ -112,12 +122,12 @@ pub fn take_u32(input: &[u8], from: Cursor) -> Number
     Number { value, next }
 }
 
-pub fn take_u64(input: &[u8], from: Cursor) -> Number
-    ensures { λ r. ⌜ r ≡ taken (now (input .entry)) from 8 ⌝ }
+pub fn read_u64(input: &[u8], from: Cursor) -> Number
+    ensures { λ r. ⌜ (r ≡ read (now (input .entry)) from 8) × Onward from (r .next) ⌝ }
 {
     let at = from.at;
     if !has_left(input, from, 8) {
-        return no_number(at);
+        return no_number(from);
     }
     let value = wire::read_u64(input, at);
     let next = Cursor {
@@ -129,24 +139,23 @@ pub fn take_u64(input: &[u8], from: Cursor) -> Number
 
 // A number that has no meaning above a limit.
 pub fn at_most(n: Number, most: u64) -> Number
-    ensures { λ r. ⌜ (r ≡ limited n most) × (r .value ≤ most) ⌝ }
+    ensures { λ r. ⌜ (r ≡ limited n most) × (r .value ≤ most) × Onward (n .next) (r .next) ⌝ }
 {
     if n.value <= most {
         return n;
     }
-    let next = n.next;
-    no_number(next.at)
+    no_number(n.next)
 }
 
 // Signed amounts of eight bytes each, as many as the list has places.
-pub fn take_amounts(input: &[u8], from: Cursor, list: &mut [i64]) -> Cursor
-    ensures { λ r. ⌜ r ≡ after (now (input .entry)) from 8 (length (now (list .entry))) ⌝ }
+pub fn read_amounts(input: &[u8], from: Cursor, list: &mut [i64]) -> Cursor
+    ensures { λ r. ⌜ (r ≡ after (now (input .entry)) from 8 (length (now (list .entry)))) × Onward from r ⌝ }
     ensures { λ r. ⌜ now (list .exit) ≡ amounts (now (input .entry)) from (length (now (list .entry))) ⌝ }
 {
     let mut next = from;
     let mut i = 0;
     while i < list.len() {
-        let n = take_u64(input, next);
+        let n = read_u64(input, next);
         list[i] = wire::to_signed(n.value);
         next = n.next;
         i += 1;

@@ -1,9 +1,10 @@
-// What the programs share: standard input, numbers taken from it one after the other, and what is printed.
+// What the programs share: standard input, numbers read from it one after the other, and what is printed.
 ghost use Rattle.io.specs.Counts.{Counts};
 
 pub mod cursor;
 pub mod output;
 
+use cursor::Cursor;
 use libc::STDIN_FILENO;
 
 // The most bytes of a program's input.
@@ -28,4 +29,11 @@ pub fn read_input(room: &mut [u8]) -> usize
         return 0;
     }
     n
+}
+
+// The end of a run: what was cut short or had no meaning is malformed.
+pub fn end_run(last: Cursor) {
+    if !last.ok {
+        output::malformed();
+    }
 }

@@ -1,7 +1,7 @@
 -- The figures of the day that a book describes are the book's: net, sums, whole amounts, weights. Assumes nothing.
 use mathlib.Core.Path.{_≡_, refl, sym, ap, ap₂, _∙_}
 use mathlib.Core.Bool.{Bool, true, false, not}
-use mathlib.Core.List.{List, [], _∷_, map}
+use mathlib.Core.List.{List, [], _∷_, map, zipWith}
 use Prim.Native.Nat.{ℕ, zero, suc, _-_, _≤_}
 use native.Mathlib.Omega.{arith}
 use lib.Dec.{leb, eqb, leb·suc-suc, leb·zero, eqb·suc-zero}
@@ -10,13 +10,13 @@ use lib.ListN.{length}
 use lib.Signed.{leZ}
 use borrow.Author.Tests.{leb-true, le-ltb}
 use Rattle.numbers.specs.Sums.{pick, total, totalZ}
-use Rattle.numbers.specs.Lists.{both, every, has, zip}
+use Rattle.numbers.specs.Lists.{both, every, has}
 use Rattle.numbers.specs.Amounts.{is-negative}
 use Rattle.numbers.proofs.Lists.{both-snd, both-end, map-map, map-eq}
 use Rattle.point_day.specs.Limits.{LIMIT, AMOUNT}
 use Rattle.point_day.specs.Day as day
 use Rattle.point_day.specs.Day.{User, numbers, all-offtake, some, no-more, too-large, measurement-right}
-use Rattle.point_day.specs.Calls.{by-basis, none-estimated, of-estimated, or-kind-1, negative, day-balance}
+use Rattle.point_day.specs.Calls.{by-basis, none-in-2-to-5, of-2-to-5, or-kind-1, negative, day-balance}
 use Rattle.point_day.specs.declared.Measurement.{Measurement}
 use Rattle.point_day.specs.declared.Measurement.the-variants.{Unmeasured, Measured}
 use Rattle.day_book.specs.Book.{Book, kinds, kinds-2-to-5, net-of, net, offtake, offtake-of, point-sum, whole, to-balance, weighing}
@@ -76,20 +76,20 @@ module _ (b : Book) (n : ℕ) where
       sym (+ℤ-assoc (pos (day.offtake (user-of b n))) (totalZ (map (b .balance n) kinds)) (b .revision n))
       ∙ ap (λ m. (pos m +ℤ totalZ (map (b .balance n) kinds)) +ℤ b .revision n) offtake-is
 
-  estimated-is : total (of-estimated (user-of b n)) ≡ offtake-of kinds-2-to-5 b n
-  unfolding total zip
-  estimated-is = omega arith
+  is-2-to-5 : total (of-2-to-5 (user-of b n)) ≡ offtake-of kinds-2-to-5 b n
+  unfolding total zipWith
+  is-2-to-5 = omega arith
 
   basis-is : (p : Bool) → total (by-basis p (user-of b n)) ≡ offtake-of (pick p kinds kinds-2-to-5) b n
-  basis-is true = unfold total zip in refl
-  basis-is false = estimated-is
+  basis-is true = unfold total zipWith in refl
+  basis-is false = is-2-to-5
 
   -- "if those are all zero, kind 1's proportion is the whole": the weights of the kinds, if q, where the kinds ks weigh
   abbrev weights : Bool → List ℕ → List ℕ
   weights q ks = map (λ kind. pick q (pick (eqb kind 1) 1 0) (pick (has kind ks) (offtake b n kind) 0)) kinds
 
   by-kind : (p q : Bool) → pick q (1 ∷ 0 ∷ 0 ∷ 0 ∷ 0 ∷ []) (by-basis p (user-of b n)) ≡ weights q (pick p kinds kinds-2-to-5)
-  unfolding has zip
+  unfolding has zipWith
   by-kind p true = refl
   by-kind true false = refl
   by-kind false false = refl
@@ -126,13 +126,13 @@ module _ (b : Book) where
   -- ---- the weights of allot
 
   abbrev all : Bool
-  all = none-estimated (day-of b .users)
+  all = none-in-2-to-5 (day-of b .users)
 
   pub weighing-is : weighing b ≡ pick all kinds kinds-2-to-5
   unfolding weighing
   weighing-is =
       ap (λ m. pick (eqb m 0) kinds kinds-2-to-5)
-      (sym (ap total (of-each (λ v. total (of-estimated v)) (offtake-of kinds-2-to-5 b) (estimated-is b))))
+      (sym (ap total (of-each (λ v. total (of-2-to-5 v)) (offtake-of kinds-2-to-5 b) (is-2-to-5 b))))
 
   pub user-weight-is : (n : ℕ) → total (by-basis all (user-of b n)) ≡ user-weight b n
   user-weight-is n = basis-is b n all ∙ ap (λ ks. offtake-of ks b n) (sym weighing-is)

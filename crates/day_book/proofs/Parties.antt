@@ -1,7 +1,7 @@
 -- Splits over numbered parties: what stands beside each party, in order, is the list of shares. Assumes nothing.
 use mathlib.Core.Path.{_≡_, refl, sym, ap, ap₂, _∙_, subst⁻¹}
 use mathlib.Core.Bool.{Bool, true, false, not}
-use mathlib.Core.List.{List, [], _∷_, map}
+use mathlib.Core.List.{List, [], _∷_, map, zipWith}
 use Prim.Native.Nat.{ℕ}
 use native.Mathlib.Omega.{arith}
 use lib.Dec.{eqb}
@@ -9,7 +9,7 @@ use lib.IntN.{ℤ}
 use lib.ListN.{length, length-map}
 use borrow.Author.Tests.{eqb-true, eq-eqb, not-true}
 use Rattle.numbers.specs.Sums.{pick}
-use Rattle.numbers.specs.Lists.{either, has, distinct, zip}
+use Rattle.numbers.specs.Lists.{either, has, distinct}
 use Rattle.numbers.proofs.Lists.{All, never, both-fst, both-snd, either-fst, either-snd}
 use Rattle.proration.specs.Proration.{prorateZ}
 use Rattle.proration.proofs.Signs.{lengthZ}
@@ -36,8 +36,8 @@ all-has P (m ∷ ns) h n e = go (eqb n m) refl e (all-has P ns (h .1) n)
 
 -- each element with what stands beside it
 pub zip-beside : {A B : Type 0} (f : A → ℤ → B) (g : ℕ → A) (ns : List ℕ) (zs : List ℤ) → distinct ns ≡ true → length ns ≡ length zs
-    → zip f (map g ns) zs ≡ map (λ n. f (g n) (beside ns zs n)) ns
-unfolding zip beside distinct
+    → zipWith f (map g ns) zs ≡ map (λ n. f (g n) (beside ns zs n)) ns
+unfolding zipWith beside distinct
 zip-beside f g [] zs d l = refl
 zip-beside f g (n ∷ ns) [] d l = absurd (omega arith)
 zip-beside f g (n ∷ ns) (z ∷ zs) d l =
@@ -46,8 +46,8 @@ zip-beside f g (n ∷ ns) (z ∷ zs) d l =
     ∙ map-all (λ m. eqb n m ≡ false) _ _ (λ m e. ap (λ p. f (g m) (pick p z (beside ns zs m))) (sym e)) ns
     (others n ns (not-true _ (both-fst _ _ d))))
 
-zip-second : {A : Type 0} (xs : List A) (zs : List ℤ) → length xs ≡ length zs → zip (λ x z. z) xs zs ≡ zs
-unfolding zip
+zip-second : {A : Type 0} (xs : List A) (zs : List ℤ) → length xs ≡ length zs → zipWith (λ x z. z) xs zs ≡ zs
+unfolding zipWith
 zip-second [] [] l = refl
 zip-second [] (z ∷ zs) l = absurd (omega arith)
 zip-second (x ∷ xs) [] l = absurd (omega arith)
@@ -70,6 +70,6 @@ module _ (A : ℤ) (weight : ℕ → ℕ) (ps : List ℕ) where
 
   -- each element with its party's share
   pub zip-parts : {X Y : Type 0} (f : X → ℤ → Y) (g : ℕ → X) → distinct ps ≡ true
-      → zip f (map g ps) (prorateZ A (map weight ps) ps) ≡ map (λ p. f (g p) (part A weight ps p)) ps
+      → zipWith f (map g ps) (prorateZ A (map weight ps) ps) ≡ map (λ p. f (g p) (part A weight ps p)) ps
   unfolding part
   zip-parts f g d = zip-beside f g ps (prorateZ A (map weight ps) ps) d parts-long

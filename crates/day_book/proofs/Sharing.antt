@@ -1,7 +1,7 @@
 -- Allot, stand-in and revise: the book's rows and shares against the tables of the calls. Assumes nothing.
 use mathlib.Core.Path.{_≡_, refl, sym, ap, ap₂, _∙_, subst, subst⁻¹}
 use mathlib.Core.Bool.{Bool, true, false, not}
-use mathlib.Core.List.{List, [], _∷_, _++_, map}
+use mathlib.Core.List.{List, [], _∷_, _++_, map, zipWith}
 use Prim.Native.Nat.{ℕ, suc}
 use lib.Dec.{leb, eqb, eqb·suc-zero, leb·zero}
 use lib.IntN.{ℤ, pos, negsuc, natAbs, _-ℤ_, +ℤ-idl}
@@ -9,14 +9,14 @@ use lib.ListN.{length, length-map}
 use lib.Signed.{leZ}
 use borrow.Author.Tests.{not-false}
 use Rattle.numbers.specs.Sums.{pick, total}
-use Rattle.numbers.specs.Lists.{both, either, every, has, distinct, rising, zip}
+use Rattle.numbers.specs.Lists.{both, either, every, has, distinct, rising}
 use Rattle.numbers.proofs.Lists.{All, never, true≢false, both-snd, either-fst, either-snd, map-map, map-eq}
 use Rattle.proration.specs.Proration.{prorateZ}
 use Rattle.point_day.specs.Limits.{USERS, AMOUNT, ROWS, TOLERANCE}
 use Rattle.point_day.specs.Day as day
 use Rattle.point_day.specs.Day.{Day, with-balance, empty-user, numbers, is-measured, some, no-more, is-number, too-large, provisional}
 use Rattle.point_day.specs.Calls as calls
-use Rattle.point_day.specs.Calls.{Verdict, refuse, accept, verdict, with-users, allotted-with, by-basis, none-estimated}
+use Rattle.point_day.specs.Calls.{Verdict, refuse, accept, verdict, with-users, allotted-with, by-basis, none-in-2-to-5}
 use Rattle.point_day.specs.Calls.{or-kind-1, user-shares, with-share, balanced, Pair, users-of, amounts-of, row-right, nearest-filled}
 use Rattle.point_day.specs.Calls.{looked-at, negative, opened, at-most, keep, assign, revise-by}
 use Rattle.point_day.specs.declared.Stage.{Stage}
@@ -66,7 +66,7 @@ five-apart = refl
 
 module _ (b : Book) (h : Kept b) where
   abbrev all : Bool
-  all = none-estimated (day-of b .users)
+  all = none-in-2-to-5 (day-of b .users)
 
   shares-are : user-shares (day-of b) ≡ prorateZ (to-balance b) (map (user-weight b) (b .users)) (b .users)
   shares-are =
@@ -80,7 +80,7 @@ module _ (b : Book) (h : Kept b) where
   balanced-is : balanced (day-of b) ≡ map (user-of (allotted b)) (b .users)
   unfolding balanced allotted day-of
   balanced-is =
-      ap (zip (with-share all) (map (user-of b) (b .users))) shares-are
+      ap (zipWith (with-share all) (map (user-of b) (b .users))) shares-are
       ∙ zip-parts (to-balance b) (user-weight b) (b .users) (with-share all) (user-of b) (users-apart b h)
       ∙ map-eq _ _ (λ n. ap (λ zs. with-balance zs (user-of b n)) (kinds-are n (user-share b n))) (b .users)
 
@@ -169,7 +169,7 @@ module _ (ps : List Pair) (apart : distinct (users-in ps) ≡ true) where
   opened-is : (z : ℤ) → opened z ps ≡ map (λ n. calls.revised (empty-user n) (part z (row-weight ps) (users-in ps) n)) (users-in ps)
   unfolding opened
   opened-is z =
-      ap₂ (λ us ws. zip calls.revised us (prorateZ z ws (users-in ps)))
+      ap₂ (λ us ws. zipWith calls.revised us (prorateZ z ws (users-in ps)))
       (sym (map-map empty-user (λ (p : Pair). p .user) ps)) (sym row-weights)
       ∙ zip-parts z (row-weight ps) (users-in ps) calls.revised empty-user apart
 
@@ -278,9 +278,9 @@ module _ (b : Book) (h : Kept b) where
   assigned-is e =
       ap (λ us. with-users us d)
       (sym
-      (ap₂ (λ z ws. zip calls.revised (map (user-of b) (b .users)) (prorateZ z ws (numbers (d .users)))) (sym (R-is e))
+      (ap₂ (λ z ws. zipWith calls.revised (map (user-of b) (b .users)) (prorateZ z ws (numbers (d .users)))) (sym (R-is e))
       (of-each b (λ u. natAbs (day.whole u)) sizes (λ m. ap natAbs (whole-is b m)))
-      ∙ ap (λ ns. zip calls.revised (map (user-of b) (b .users)) (prorateZ (R b) (map sizes (b .users)) ns)) (numbers-is b)
+      ∙ ap (λ ns. zipWith calls.revised (map (user-of b) (b .users)) (prorateZ (R b) (map sizes (b .users)) ns)) (numbers-is b)
       ∙ zip-parts (R b) sizes (b .users) calls.revised (user-of b) (users-apart b h)))
 
   -- by whether R is within tolerance

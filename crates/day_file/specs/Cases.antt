@@ -7,7 +7,7 @@ use Rattle.numbers.specs.Lists.{every, flat}
 use Rattle.wire.specs.Bytes.{little-endian}
 use Rattle.wire.specs.Text.{digits-of, natural, decimal}
 use Rattle.day_book.specs.Run as run
-use Rattle.file_form.specs.Form.{sorted, none-overlap, sections-right, well-formed}
+use Rattle.day_file.specs.Form.{sorted, none-overlap, sections-right, well-formed}
 use Rattle.day_file.specs.File.{file-calls}
 use Rattle.day_file.specs.Report.{refused, report}
 use Rattle.day_file.specs.Text.{spaced, text}

@@ -4,7 +4,8 @@ use Prim.Native.Nat.{ℕ, _+_, _*_}
 use Rattle.numbers.specs.Sums.{table}
 use Rattle.numbers.specs.Lists.{flat}
 use Rattle.day_book.specs.Run.{Call, join, line, measure, allot}
-use Rattle.file_form.specs.Form.{u8, u16, u32, emission, downstream, Section, sections, USER, LINE, line-count}
+use Rattle.day_file.specs.declared.Section.{Section}
+use Rattle.day_file.specs.Form.{u8, u16, u32, emission, downstream, sections, USER, LINE, line-count}
 
 -- "then measure, the sections' joins and lines in order, and allot"
 

@@ -2,15 +2,17 @@
 use mathlib.Core.Path.{_≡_, refl, sym, ap, _∙_}
 use mathlib.Core.Bool.{true, false}
 use mathlib.Core.List.{List, [], _∷_, _++_, map}
+use mathlib.Core.Logic.{⊎-elim}
 use Prim.Native.Nat.{ℕ, _+_, _≤_, _<_}
 use native.Mathlib.Omega.{arith}
 use lib.Dec.{leb}
 use lib.IntN.{pos}
-use lib.Seq.{take-at}
-use lib.ListN.{drop, length-append, length, length-replicate}
+use lib.Seq.{take-at, take-all}
+use lib.ListN.{take, drop, length-append, length, length-take, length-replicate}
 use borrow.Author.Tests.{le-leb, lt-leb}
 use Rattle.numbers.specs.Sums.{pick}
 use Rattle.numbers.specs.Lists.{flat}
+use Rattle.numbers.proofs.Sums.{lt-or-ge}
 use Rattle.point_day.specs.Limits.{USERS, CELLS}
 use Rattle.point_day.specs.Day.{fresh, emission-right}
 use Rattle.point_day.specs.Calls as calls
@@ -19,19 +21,20 @@ use Rattle.point_day.specs.declared.Measurement.{Measurement}
 use Rattle.point_day.specs.declared.Measurement.the-variants.{Unmeasured, Measured}
 use Rattle.calendar.specs.Days.{LAST-DAY}
 use Rattle.point_day.specs.Fields.{set-measurement}
-use Rattle.measurement.proofs.Measures.{measure-2, measure-done}
+use Rattle.measure.proofs.Measures.{measure-2, measure-done}
 use Rattle.day_book.specs.Run.{Call, measure, allot}
-use Rattle.file_form.specs.Form.{gas-day, emission, downstream, sections, well-formed}
+use Rattle.day_file.proofs.WellFormed.{too-long}
+use Rattle.day_file.specs.Form.{MOST-BYTES, gas-day, emission, downstream, sections, well-formed}
 use Rattle.day_file.specs.File.{section-calls, file-calls}
 use Rattle.io.specs.Counts.{Counts}
 use Rattle.wire.specs.Text.{written}
 use Rattle.day_file.specs.Report.{refused, in-order, report}
 use Rattle.day_file.specs.Text.{text}
-use Rattle.refusal_text.specs.Room.{TEXT-ROOM}
-use Rattle.file_entry.specs.Entering.{entering, unjoined}
-use Rattle.file_entry.proofs.Entries.{step}
-use Rattle.file_allotment.specs.Entered.{entered-and-allotted}
-use Rattle.file_allotment.proofs.Allotting.{unjoined-taken}
+use Rattle.report.specs.Room.{REPORT-ROOM}
+use Rattle.file_lines.specs.Entering.{entering, unjoined}
+use Rattle.file_lines.proofs.Steps.{step}
+use Rattle.day_report.specs.Entered.{entered-and-allotted}
+use Rattle.day_report.proofs.allotment.Allotting.{unjoined-taken}
 
 -- ---- measure
 
@@ -85,21 +88,29 @@ module _ (f : List ℕ) where
       pub measured : emission-right b w ≡ true → entered-and-allotted f g (Measured b w) ≡ report f
       measured h = sym (by-calls ∙ measure-leads b w g (flat (map (section-calls f) (sections f)) ++ (allot ∷ [])) h)
 
+-- the first bytes of an input, one more than a day file may have, tell its report
+pub enough : (f : List ℕ) → report (take (MOST-BYTES + 1) f) ≡ report f
+enough f =
+    ⊎-elim
+    (λ l. sym (malformed (take (MOST-BYTES + 1) f) (sym (too-long (take (MOST-BYTES + 1) f) (omega (arith, length-take (MOST-BYTES + 1) f))))) ∙ malformed f (sym (too-long f (omega arith))))
+    (λ l. ap report (take-all (MOST-BYTES + 1) f l))
+    (lt-or-ge (MOST-BYTES + 1) (length f))
+
 -- ---- with the room and without it
 
 module _ (f out : List ℕ) where
   -- what is written, and how many bytes it has
   abbrev pub Written : ℕ → List ℕ → Type 0
   Written r o =
-      (r ≡ pick (leb TEXT-ROOM (length out)) (length (text (report f))) 0)
-      × ((o ≡ pick (leb TEXT-ROOM (length out)) (written out 0 (text (report f))) out) × Counts r o)
+      (r ≡ pick (leb REPORT-ROOM (length out)) (length (text (report f))) 0)
+      × ((o ≡ pick (leb REPORT-ROOM (length out)) (written out 0 (text (report f))) out) × Counts r o)
 
-  pub no-room : length out < TEXT-ROOM → Written 0 out
-  no-room l = rw (lt-leb TEXT-ROOM (length out) l) (refl, (refl, (omega arith, refl)))
+  pub no-room : length out < REPORT-ROOM → Written 0 out
+  no-room l = rw (lt-leb REPORT-ROOM (length out) l) (refl, (refl, (omega arith, refl)))
 
-  pub with-room : TEXT-ROOM ≤ length out → {r : ℕ} {o : List ℕ} → r ≡ length (text (report f)) → o ≡ written out 0 (text (report f)) → Written r o
+  pub with-room : REPORT-ROOM ≤ length out → {r : ℕ} {o : List ℕ} → r ≡ length (text (report f)) → o ≡ written out 0 (text (report f)) → Written r o
   with-room l {r} {o} p q =
-      rw (le-leb TEXT-ROOM (length out) l)
+      rw (le-leb REPORT-ROOM (length out) l)
       (p, (q, (rw (q, p) fits, rw (q, p) (sym (ap length (take-at (text (report f)) (drop (0 + length (text (report f))) out) (length (text (report f))) refl))))))
     where
       fits : length (text (report f)) ≤ length (written out 0 (text (report f)))

@@ -16,14 +16,14 @@ use Rattle.point_day.specs.declared.StandInRows.{StandInRows}
 use Rattle.point_day.specs.declared.Answer as code
 use Rattle.point_day.specs.declared.Outcome.{Outcome}
 use Rattle.point_day.proofs.fresh_day.Reads as fresh
-use Rattle.entry.proofs.join.Reads as joined
-use Rattle.lines.proofs.line.Reads as lined
-use Rattle.lines.proofs.line_lent as lent
-use Rattle.measurement.proofs.measure.Reads as measured
-use Rattle.allotment.proofs.allot.Reads as allotted
+use Rattle.join.proofs.join.Reads as joined
+use Rattle.line.proofs.line.Reads as lined
+use Rattle.line.proofs.line_lent as lent
+use Rattle.measure.proofs.measure.Reads as measured
+use Rattle.allot.proofs.allot.Reads as allotted
 use Rattle.stand_in.proofs.stand_in.Reads as stood-in
-use Rattle.revision.proofs.revise.Reads as revised
-use Rattle.final_stage.proofs.start_final.Reads as restarted
+use Rattle.revise.proofs.revise.Reads as revised
+use Rattle.start_final.proofs.start_final.Reads as restarted
 use Rattle.day_book.specs.Calls as call
 use Rattle.day_book.specs.Calls.{Calls, none, _then_}
 

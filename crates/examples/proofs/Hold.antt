@@ -1,12 +1,12 @@
 -- The examples of document 01, section "Examples, P to be proved", hold, by computation. Assumes nothing.
 use mathlib.Core.Path.{_≡_, refl, sym, ap, _∙_}
 use mathlib.Core.Bool.{true}
-use mathlib.Core.List.{List, [], _∷_}
+use mathlib.Core.List.{List, [], _∷_, zipWith}
 use Prim.Native.Nat.{ℕ, zero, suc}
 use lib.IntN.{pos}
 use lib.Count.{onesIn}
 use Rattle.numbers.specs.Sums.{sum, table, total, totalZ}
-use Rattle.numbers.specs.Lists.{every, has, distinct, rising, flat, zip}
+use Rattle.numbers.specs.Lists.{every, has, distinct, rising, flat}
 use Rattle.numbers.specs.Nearest.{nearest}
 use Rattle.proration.specs.Proration.{before, left, share, split, counted, prorate, prorateZ}
 use Rattle.point_day.specs.Day.{Day, fresh}
@@ -19,7 +19,7 @@ use Rattle.day_book.specs.Run as calls
 use Rattle.day_book.specs.Run.{_then_, move, run}
 use Rattle.wire.specs.Bytes.{little-endian}
 use Rattle.wire.specs.Text.{digits-of, natural, decimal}
-use Rattle.file_form.specs.Form.{sorted, none-overlap, sections-right, well-formed}
+use Rattle.day_file.specs.Form.{sorted, none-overlap, sections-right, well-formed}
 use Rattle.day_file.specs.File.{file-calls}
 use Rattle.day_file.specs.Report.{allotted, in-order, report}
 use Rattle.day_file.specs.Text.{spaced, text}
@@ -41,7 +41,7 @@ use Rattle.examples.specs.Examples.{Example, example, Holds, AllHold, La
 
 -- to unfold one of these is to compute: lists and proration; the calls; file E's calls; a text; the calendar; a supply point
 lists : Unit {0}
-unfolding prorateZ prorate counted split share left before nearest every has distinct rising flat zip sum table total totalZ
+unfolding prorateZ prorate counted split share left before nearest every has distinct rising flat zipWith sum table total totalZ
 lists = tt
 
 the-calls : Unit {0}

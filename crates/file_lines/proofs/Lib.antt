@@ -1,2 +1,4 @@
-pub mod LineEntries
-pub mod UserEntries
+pub mod Taking
+pub mod Steps
+pub mod Leading
+pub mod SectionSteps

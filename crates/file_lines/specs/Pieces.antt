@@ -6,16 +6,15 @@ use lib.Dec.{leb, eqb}
 use lib.ListN.{take}
 use Rattle.numbers.specs.Sums.{pick}
 use Rattle.numbers.specs.Lists.{both, has}
-use Rattle.point_day.specs.Limits.{USERS}
 use Rattle.point_day.specs.Calls.{line-right}
-use Rattle.line_cells.specs.Cell.{line-losses, past-limit}
-use Rattle.file_lines.specs.declared.Entry.{Entry}
-use Rattle.file_lines.specs.declared.Entry.the-variants.{Refused, Offtake}
+use Rattle.line.specs.Cell.{line-losses, past-limit}
+use Rattle.file_lines.specs.declared.lines.SoFar.{SoFar}
+use Rattle.file_lines.specs.declared.lines.SoFar.the-variants.{Refused, Offtake}
 
 -- ---- a line, by its numbers
 
-abbrev pub line-entry : ℕ → ℕ → ℕ → ℕ → ℕ → Entry
-line-entry n kind c k offtake =
+abbrev pub line-so-far : ℕ → ℕ → ℕ → ℕ → ℕ → SoFar
+line-so-far n kind c k offtake =
     pick (line-right n kind c k) (pick (past-limit offtake c k) (Refused 6) (Offtake (offtake + (c + line-losses c k)))) (Refused 2)
 
 -- the line is added
@@ -24,6 +23,6 @@ is-added n kind c k offtake = both (line-right n kind c k) (not (past-limit offt
 
 -- ---- a user, by the slots before
 
--- the number of the refusal, or 0
-abbrev pub user-refusal : ℕ → ℕ → List ℕ → ℕ
-user-refusal n slot us = pick (eqb n 0) 2 (pick (has n (take slot us)) 4 (pick (leb USERS slot) 5 0))
+-- the number of the refusal, or 0, if so many may join
+abbrev pub user-refusal : ℕ → ℕ → ℕ → List ℕ → ℕ
+user-refusal limit n slot us = pick (eqb n 0) 2 (pick (has n (take slot us)) 4 (pick (leb limit slot) 5 0))

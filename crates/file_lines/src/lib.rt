@@ -1,78 +1,87 @@
-// A line and a user of a day file, entered into lent arrays.
+// The sections of a day file entered into lent arrays.
+pub mod lines;
+
 ghost use mathlib.Core.Path.{_≡_};
-ghost use Prim.Native.Nat.{_+_, _≤_, _<_};
-ghost use lib.Dec.{eqb};
-ghost use lib.ListN.{length, set};
-ghost use Rattle.numbers.specs.Sums.{pick};
-ghost use Rattle.point_day.specs.Limits.{USERS, LIMIT};
-ghost use Rattle.line_cells.specs.Cell.{line-losses, more, place, Limited};
-ghost use Rattle.file_form.specs.Form.{LINE, u8, u16, u32};
-ghost use Rattle.file_lines.specs.Pieces.{line-entry, is-added, user-refusal};
-use file_form::COEFFICIENT;
-use file_form::CONSUMPTION;
-use file_form::LINE;
-use line_cells::CellLine;
+ghost use mathlib.Core.Bool.{true};
+ghost use mathlib.Core.List.{map};
+ghost use Prim.Native.Nat.{_+_, _<_};
+ghost use Rattle.numbers.specs.Lists.{flat};
+ghost use Rattle.point_day.specs.Limits.{USERS};
+ghost use Rattle.day_file.specs.Form.{pair-count, pairs-start, section-at, sections, well-formed};
+ghost use Rattle.day_file.specs.File.{section-calls};
+ghost use Rattle.file_lines.specs.Entering.{entering, Entered, Unless-refused, Comes-to};
+use day_file::LINE;
+use day_file::USER;
+use lines::SoFar;
 use point_day::CELLS;
 use point_day::USERS;
 
-// What entering a line, a section or all sections comes to: the number of a refusal, or all consumption and losses so far.
-pub enum Entry {
-    Refused(u8),
-    Offtake(u64),
-}
-
-// A line of the file, for the user of a slot.
-pub fn enter_line(
+// Section i of the file, of whose sections at most `limit` are taken: a user and its lines.
+fn enter_section(
     file: &[u8],
-    at: usize,
-    user: u16,
-    slot: usize,
+    pairs: usize,
+    i: usize,
+    limit: usize,
     offtake: u64,
+    users: &mut [u16; USERS],
     consumption: &mut [i64; CELLS],
     losses: &mut [i64; CELLS],
-) -> Entry
-    requires { ⌜ (at + LINE ≤ length (now file)) × (slot < USERS) × (offtake ≤ LIMIT) × Limited (now consumption) × Limited (now losses) ⌝ }
-    ensures { λ r. ⌜ r ≡ line-entry user (u8 (now (file .entry)) at) (u32 (now (file .entry)) (at + 1)) (u16 (now (file .entry)) (at + 5)) offtake ⌝ }
-    ensures { λ r. ⌜ now (consumption .exit) ≡ pick (is-added user (u8 (now (file .entry)) at) (u32 (now (file .entry)) (at + 1)) (u16 (now (file .entry)) (at + 5)) offtake)
-        (more (place slot (u8 (now (file .entry)) at)) (u32 (now (file .entry)) (at + 1)) (now (consumption .entry))) (now (consumption .entry)) ⌝ }
-    ensures { λ r. ⌜ now (losses .exit) ≡ pick (is-added user (u8 (now (file .entry)) at) (u32 (now (file .entry)) (at + 1)) (u16 (now (file .entry)) (at + 5)) offtake)
-        (more (place slot (u8 (now (file .entry)) at)) (line-losses (u32 (now (file .entry)) (at + 1)) (u16 (now (file .entry)) (at + 5))) (now (losses .entry))) (now (losses .entry)) ⌝ }
+) -> SoFar
+    requires { ⌜ (well-formed (now file) ≡ true) × (pairs ≡ pairs-start (now file)) × (i < pair-count (now file)) × (limit ≡ USERS) × Entered i (now users) (now consumption) (now losses) offtake ⌝ }
+    ensures { λ r. ⌜ Unless-refused r (Entered (i + 1) (now (users .exit)) (now (consumption .exit)) (now (losses .exit))) ⌝ }
+    ensures { λ r. ⌜ Comes-to r (section-calls (now (file .entry)) (section-at (now (file .entry)) i))
+        (entering i (now (users .entry)) (now (consumption .entry)) (now (losses .entry)))
+        (entering (i + 1) (now (users .exit)) (now (consumption .exit)) (now (losses .exit))) ⌝ }
 {
-    let kind = wire::read_u8(file, at) as u8;
-    let amount = wire::read_u32(file, at + CONSUMPTION);
-    let coefficient = wire::read_u16(file, at + COEFFICIENT);
-    if !line_cells::line_right(user, kind, amount, coefficient) {
-        return Entry::Refused(numbers::OUT_OF_RANGE);
+    let section = day_file::section_at(file, pairs, i);
+    let offset = section.offset;
+    let size = section.size;
+    let user = wire::read_u16(file, offset) as u16;
+    let refusal = lines::enter_user(users, i, limit, user);
+    if refusal != 0 {
+        return SoFar::Refused(refusal);
     }
-    match line_cells::line_cell(
-        consumption,
-        losses,
-        slot,
-        kind,
-        amount,
-        coefficient,
-        offtake,
-    ) {
-        CellLine::Refused(number) => Entry::Refused(number),
-        CellLine::Added(added) => Entry::Offtake(offtake + (amount + added)),
+    let start = offset + USER;
+    let lines = (size - USER) / LINE;
+    let mut sum = offtake;
+    let mut j = 0;
+    while j < lines {
+        let at = start + LINE * j;
+        let so_far = lines::enter_line(file, at, user, i, sum, consumption, losses);
+        let SoFar::Offtake(more) = so_far else {
+            return so_far;
+        };
+        sum = more;
+        j += 1;
     }
+    SoFar::Offtake(sum)
 }
 
-// A user joins in a slot; the number of the refusal, or 0.
-pub fn enter_user(users: &mut [u16; USERS], slot: usize, user: u16) -> u8
-    requires { ⌜ slot ≤ USERS ⌝ }
-    ensures { λ r. ⌜ r ≡ user-refusal user slot (now (users .entry)) ⌝ }
-    ensures { λ r. ⌜ now (users .exit) ≡ pick (eqb r 0) (set (now (users .entry)) slot user) (now (users .entry)) ⌝ }
+// All sections of the file, one after the other, on the arrays of a point-day without users; at most `limit` are taken.
+pub fn enter_sections(
+    file: &[u8],
+    pairs: usize,
+    count: usize,
+    limit: usize,
+    users: &mut [u16; USERS],
+    consumption: &mut [i64; CELLS],
+    losses: &mut [i64; CELLS],
+) -> SoFar
+    requires { ⌜ (well-formed (now file) ≡ true) × (pairs ≡ pairs-start (now file)) × (count ≡ pair-count (now file)) × (limit ≡ USERS) × Entered 0 (now users) (now consumption) (now losses) 0 ⌝ }
+    ensures { λ r. ⌜ Unless-refused r (Entered count (now (users .exit)) (now (consumption .exit)) (now (losses .exit))) ⌝ }
+    ensures { λ r. ⌜ Comes-to r (flat (map (section-calls (now (file .entry))) (sections (now (file .entry)))))
+        (entering 0 (now (users .entry)) (now (consumption .entry)) (now (losses .entry)))
+        (entering count (now (users .exit)) (now (consumption .exit)) (now (losses .exit))) ⌝ }
 {
-    if user == 0 {
-        return numbers::OUT_OF_RANGE;
+    let mut sum: u64 = 0;
+    let mut i = 0;
+    while i < count {
+        let so_far = enter_section(file, pairs, i, limit, sum, users, consumption, losses);
+        let SoFar::Offtake(more) = so_far else {
+            return so_far;
+        };
+        sum = more;
+        i += 1;
     }
-    if state::slot_of(users, slot, user) < slot {
-        return numbers::ALREADY_JOINED;
-    }
-    if USERS <= slot {
-        return numbers::ALL_JOINED;
-    }
-    users[slot] = user;
-    0
+    SoFar::Offtake(sum)
 }

@@ -20,8 +20,8 @@ use Rattle.point_day.specs.Calls.{kinds}
 use Rattle.point_day.specs.Struct.{kinds-of, user-at, read}
 use Rattle.point_day.specs.declared.PointDay.{PointDay}
 use Rattle.point_day.proofs.Back.{flat-snoc}
-use Rattle.inventory_row.specs.Row.{is-row, row}
-use Rattle.inventory_cells.specs.Cells.{cell, cells, row-count}
+use Rattle.inventory.specs.Row.{is-row, row}
+use Rattle.inventory.specs.Cells.{cell, cells, row-count}
 use Rattle.inventory.specs.Inventory.{Row, five, row-of, some-amount, those, rows}
 
 -- ---- rows picked one by one

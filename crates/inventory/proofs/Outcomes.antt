@@ -17,9 +17,11 @@ use Rattle.point_day.specs.Struct.{read, none-below, taken}
 use Rattle.point_day.specs.declared.PointDay.{PointDay}
 use Rattle.point_day.proofs.Taken.{taken-facts}
 use Rattle.point_day.proofs.Called.{test-holds, test-passed, none-left}
-use Rattle.inventory_row.specs.Row.{ROW}
-use Rattle.inventory_cells.specs.Cells.{cells, row-count}
-use Rattle.inventory.specs.Inventory.{five, rows, Answer, refused, written, tests, by, inventory, Reordered, none, keep, Afterwards}
+use Rattle.inventory.specs.Row.{ROW}
+use Rattle.inventory.specs.Cells.{cells}
+use Rattle.inventory.specs.Inventory.{five, rows, Answer, written, tests, by, inventory, Reordered, none, keep, Written, Afterwards}
+use Rattle.inventory.specs.Listed.{row-total, listed-in, Lists, Tested}
+use Rattle.inventory.specs.declared.InventoryAnswer.the-variants.{Refused}
 use Rattle.inventory.proofs.Listing.{listed, listed-count}
 
 -- a list is an order of its own
@@ -33,54 +35,61 @@ not-negative [] e i = refl
 not-negative (z ∷ zs) e zero = not-true (is-negative z) (both-fst (not (is-negative z)) _ e)
 not-negative (z ∷ zs) e (suc i) = not-negative zs (both-snd (not (is-negative z)) _ e) i
 
-module _ (d : PointDay) (buffer : List ℤ) where
-  -- an answer and the buffer afterwards
-  abbrev pub Ends : Answer → List ℤ → Type 0
-  Ends a after = (a ≡ inventory d buffer) × Afterwards (inventory d buffer) (read d) buffer after
-
-  ends : (a : Answer) (after : List ℤ) → a ≡ inventory d buffer → Afterwards a (read d) buffer after → Ends a after
-  ends a after e h = (e, subst (λ x. Afterwards x (read d) buffer after) e h)
-
-  pub not-taken : taken d ≡ false → Ends (refused 2) buffer
+module _ (d : PointDay) (room : ℕ) where
+  pub not-taken : taken d ≡ false → Tested d room (Refused 2)
   unfolding inventory
-  not-taken e = ends (refused 2) buffer (rw e) refl
+  not-taken e = λ buffer l. rw e
 
   module _ (t : taken d ≡ true) where
-    by-verdict : {v : Verdict} → verdict (tests (read d) buffer) ≡ v → by v (length (rows (read d))) ≡ inventory d buffer
+    by-verdict : (buffer : List ℤ) {v : Verdict} → verdict (tests (read d) buffer) ≡ v → by v (length (rows (read d))) ≡ inventory d buffer
     unfolding inventory
-    by-verdict e = rw (t, e)
+    by-verdict buffer e = rw (t, e)
 
-    pub not-allotted : d .allotted ≡ false → Ends (refused 1) buffer
+    pub not-allotted : d .allotted ≡ false → Tested d room (Refused 1)
     unfolding tests read
-    not-allotted e = ends (refused 1) buffer (by-verdict (test-holds 1 _ _ (ap not e))) refl
+    not-allotted e = λ buffer l. by-verdict buffer (test-holds 1 _ _ (ap not e))
 
     -- the cells of the users, how many there are, and their rows
     pub cells-few : KINDS * d .count ≤ CELLS
     cells-few = omega (arith, taken-facts d t .few)
 
-    abbrev row-total : ℕ
-    row-total = row-count (d .consumption) (d .losses) (d .balance) (KINDS * d .count)
-
-    counted : length (rows (read d)) ≡ row-total
+    counted : length (rows (read d)) ≡ row-total d
     counted = listed-count d (not-negative (d .consumption) (taken-facts d t .consumption)) (not-negative (d .losses) (taken-facts d t .losses))
 
     numbers-are : flat (map five (rows (read d))) ≡ cells (d .users) (d .consumption) (d .losses) (d .balance) (KINDS * d .count)
     numbers-are = listed d (not-negative (d .consumption) (taken-facts d t .consumption)) (not-negative (d .losses) (taken-facts d t .losses))
 
     module _ (a : d .allotted ≡ true) where
-      pub short : length buffer < ROW * row-total → Ends (refused 14) buffer
+      pub short : room < ROW * row-total d → Tested d room (Refused 14)
       unfolding tests read
-      short l =
-          ends (refused 14) buffer
-          (by-verdict (test-passed 1 _ _ (ap not a) (test-holds 14 _ _ (lt-ltb (length buffer) (ROW * length (rows (read d))) (omega (arith, counted))))))
-          refl
+      short l = λ buffer e.
+          by-verdict buffer (test-passed 1 _ _ (ap not a) (test-holds 14 _ _ (lt-ltb (length buffer) (ROW * length (rows (read d))) (omega (arith, counted)))))
 
-      pub all-written : ROW * row-total ≤ length buffer → {after : List ℤ}
-          → after ≡ cells (d .users) (d .consumption) (d .losses) (d .balance) (KINDS * d .count) ++ drop (ROW * row-total) buffer
-          → {count : ℕ} → count ≡ row-total → Ends (written count) after
+      pub lists : ROW * row-total d ≤ room → (count : ℕ) → count ≡ row-total d → Lists d room count
       unfolding tests read
-      all-written l {after} h {count} k =
-          ends (written count) after
-          (ap written (k ∙ sym counted)
-          ∙ by-verdict (test-passed 1 _ _ (ap not a) (test-passed 14 _ _ (le-ltb (length buffer) (ROW * length (rows (read d))) (omega (arith, counted))) none-left)))
-          (record { listed = rows (read d); each-once = unchanged (rows (read d)); buffer = h ∙ sym (ap₂ (λ s m. s ++ drop (ROW * m) buffer) numbers-are counted) })
+      lists l count k = record {
+        is = λ buffer e.
+            ap written (k ∙ sym counted)
+            ∙ by-verdict buffer (test-passed 1 _ _ (ap not a) (test-passed 14 _ _ (le-ltb (length buffer) (ROW * length (rows (read d))) (omega (arith, counted))) none-left));
+        rows = λ buffer. record {
+          listed = rows (read d);
+          each-once = unchanged (rows (read d));
+          buffer = sym (ap₂ (λ s m. s ++ drop (ROW * m) buffer) numbers-are counted);
+        };
+        taken = t;
+        few = cells-few;
+        fits = l;
+      }
+
+-- ---- what the tests found, done
+
+module _ (d : PointDay) (buffer after : List ℤ) where
+  -- an answer and the buffer afterwards
+  abbrev pub Ends : Answer → Type 0
+  Ends a = (a ≡ inventory d buffer) × Afterwards (inventory d buffer) (read d) buffer after
+
+  pub ends : (a : Answer) → a ≡ inventory d buffer → Afterwards a (read d) buffer after → Ends a
+  ends a e h = (e, subst (λ x. Afterwards x (read d) buffer after) e h)
+
+  pub all-written : (room count : ℕ) → Lists d room count → length buffer ≡ room → after ≡ listed-in d buffer → Ends (written count)
+  all-written room count L l e = ends (written count) (L .is buffer l) (subst (Written (read d) buffer) (sym e) (L .rows buffer))

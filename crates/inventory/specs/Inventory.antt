@@ -15,7 +15,7 @@ use Rattle.point_day.specs.Struct.{read, taken}
 use Rattle.point_day.specs.declared.PointDay.{PointDay}
 use Rattle.point_day.specs.declared.Stage.the-variants.{Provisional}
 use Rattle.point_day.specs.declared.Measurement.the-variants.{Measured}
-use Rattle.inventory_row.specs.Row.{ROW}
+use Rattle.inventory.specs.Row.{ROW}
 use Rattle.inventory.specs.declared.InventoryAnswer.{InventoryAnswer}
 use Rattle.inventory.specs.declared.InventoryAnswer.the-variants.{Refused, Rows}
 

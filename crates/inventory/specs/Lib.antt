@@ -1,2 +1,5 @@
 pub mod Inventory
 pub mod Laws
+pub mod Listed
+pub mod Row
+pub mod Cells

@@ -124,6 +124,22 @@ module _ (m : ℕ) (f : ℕ → ℤ) (h : (i : ℕ) → Within m (f i)) (i : ℕ
   pub turn-fits : SFits w64 (toZ w64 s +ℤ toZ w64 (ofZ w64 (f i)))
   turn-fits = rw turn (sfits (within-sum m f h (i + 1)) l)
 
+-- the same where only the first n are known to be small
+pub within-first : (m : ℕ) (f : ℕ → ℤ) (n : ℕ) → ((i : ℕ) → i < n → Within m (f i)) → Within (n * m) (sumZ f n)
+unfolding sumZ
+within-first m f zero h = record { size = omega arith }
+within-first m f (suc n) h = widen (within-add (within-first m f n (λ i l. h i (omega arith))) (h n (omega arith))) (omega (arith, suc-mul n m))
+
+module _ (m : ℕ) (f : ℕ → ℤ) (i : ℕ) (h : (j : ℕ) → j < i + 1 → Within m (f j)) {s : ℕ} (e : s ≡ ofZ w64 (sumZ f i)) (l : (i + 1) * m < 2 ^ 63) where
+  pub next-turn : toZ w64 s +ℤ toZ w64 (ofZ w64 (f i)) ≡ sumZ f (i + 1)
+  next-turn =
+      ap₂ _+ℤ_ (ap (toZ w64) e ∙ back (within-first m f i (λ j q. h j (omega arith))) (omega (arith, add-mul i 1 m, one-mul m)))
+      (back (h i (omega arith)) (omega (arith, add-mul i 1 m, one-mul m)))
+      ∙ sym (sumZ-more f i)
+
+  pub next-turn-fits : SFits w64 (toZ w64 s +ℤ toZ w64 (ofZ w64 (f i)))
+  next-turn-fits = rw next-turn (sfits (within-first m f (i + 1) h) l)
+
 -- ---- equal bits
 
 pub same-bits : {x y : ℤ} → SFits w64 x → SFits w64 y → ofZ w64 x ≡ ofZ w64 y → x ≡ y

@@ -1,7 +1,7 @@
 -- Laws of tests and of lists. Assumes nothing.
 use mathlib.Core.Path.{_≡_, refl, sym, ap, ap₂, _∙_, subst, subst⁻¹}
 use mathlib.Core.Bool.{Bool, true, false, not}
-use mathlib.Core.List.{List, [], _∷_, _++_, map}
+use mathlib.Core.List.{List, [], _∷_, _++_, map, zipWith}
 use mathlib.Core.Logic.{⊎-elim}
 use Prim.Native.Nat.{ℕ, zero, suc, _+_, _≤_, _<_}
 use native.Mathlib.Omega.{arith}
@@ -11,7 +11,7 @@ use lib.ListN.{length, getD, take}
 use lib.Seq.{take-suc, getD-take, length-take-le}
 use borrow.Author.Tests.{ltb-true, eqb-false, eq-eqb, ne-eqb, not-true}
 use Rattle.numbers.specs.Sums.{table, at}
-use Rattle.numbers.specs.Lists.{both, either, every, has, distinct, Distinct, rising, zip}
+use Rattle.numbers.specs.Lists.{both, either, every, has, distinct, Distinct, rising}
 use Rattle.numbers.proofs.Sums.{lt-or-ge}
 
 -- ---- tests
@@ -88,23 +88,23 @@ module _ {A : Type 0} where
   all-table P f (suc n) h = all-append P (table f n) (f n ∷ []) (all-table P f n (λ i l. h i (omega arith))) (h n (omega arith), tt)
 
   -- of every element and its neighbour in the other list
-  pub zip-length : {B C : Type 0} (f : A → B → C) (xs : List A) (ys : List B) → length xs ≡ length ys → length (zip f xs ys) ≡ length xs
-  unfolding zip
+  pub zip-length : {B C : Type 0} (f : A → B → C) (xs : List A) (ys : List B) → length xs ≡ length ys → length (zipWith f xs ys) ≡ length xs
+  unfolding zipWith
   zip-length f [] ys e = refl
   zip-length f (x ∷ xs) [] e = absurd (omega arith)
   zip-length f (x ∷ xs) (y ∷ ys) e = ap suc (zip-length f xs ys (omega arith))
 
   -- a function of the first list's elements alone
   pub map-zip : {B C D : Type 0} (g : C → D) (h : A → D) (f : A → B → C) → ((x : A) (y : B) → g (f x y) ≡ h x)
-      → (xs : List A) (ys : List B) → length xs ≡ length ys → map g (zip f xs ys) ≡ map h xs
-  unfolding zip
+      → (xs : List A) (ys : List B) → length xs ≡ length ys → map g (zipWith f xs ys) ≡ map h xs
+  unfolding zipWith
   map-zip g h f e [] ys l = refl
   map-zip g h f e (x ∷ xs) [] l = absurd (omega arith)
   map-zip g h f e (x ∷ xs) (y ∷ ys) l = ap₂ _∷_ (e x y) (map-zip g h f e xs ys (omega arith))
 
   pub all-zip : {B C : Type 0} (P : A → Type 0) (Q : B → Type 0) (R : C → Type 0) (f : A → B → C) → ((x : A) (y : B) → P x → Q y → R (f x y))
-      → (xs : List A) (ys : List B) → All P xs → All Q ys → All R (zip f xs ys)
-  unfolding zip
+      → (xs : List A) (ys : List B) → All P xs → All Q ys → All R (zipWith f xs ys)
+  unfolding zipWith
   all-zip P Q R f g [] ys h k = tt
   all-zip P Q R f g (x ∷ xs) [] h k = tt
   all-zip P Q R f g (x ∷ xs) (y ∷ ys) h k = (g x y (h .0) (k .0), all-zip P Q R f g xs ys (h .1) (k .1))

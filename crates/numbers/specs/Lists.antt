@@ -47,7 +47,3 @@ flat [] = []
 flat (xs ∷ xss) = xs ++ flat xss
 
 -- f of the elements of two lists, pair by pair
-unfoldable pub zip : {A B C : Type 0} → (A → B → C) → List A → List B → List C
-zip f [] ys = []
-zip f (x ∷ xs) [] = []
-zip f (x ∷ xs) (y ∷ ys) = f x y ∷ zip f xs ys

@@ -2,7 +2,7 @@
 ghost use mathlib.Core.Path.{_≡_};
 ghost use Prim.Native.Nat.{ℕ, _≤_, _<_};
 ghost use lib.Dec.{leb, eqb};
-ghost use lib.IntN.{natAbs, _+ℤ_, _-ℤ_};
+ghost use lib.IntN.{pos, natAbs, _+ℤ_, _-ℤ_};
 ghost use lib.ListN.{length};
 ghost use Rattle.numbers.specs.Sums.{atZ, totalZ};
 ghost use Rattle.numbers.specs.Amounts.{SAFE, Within, Between, Decides, is-negative, signed};
@@ -161,4 +161,17 @@ pub fn all_between(xs: &[i64], from: usize, low: i64, high: i64) -> bool
         i += 1;
     }
     true
+}
+
+// Whether every amount from a place on is 0: their bits are gathered, and tested once.
+pub fn all_zero(xs: &[i64], from: usize) -> bool
+    ensures { λ r. ⌜ Decides r ((i : ℕ) → from ≤ i → i < length (now (xs .entry)) → Between (pos 0) (pos 0) (atZ (now (xs .entry)) i)) ⌝ }
+{
+    let mut bits: i64 = 0;
+    let mut i = from;
+    while i < xs.len() {
+        bits = bits | xs[i];
+        i += 1;
+    }
+    bits == 0
 }

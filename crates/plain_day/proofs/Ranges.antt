@@ -14,7 +14,7 @@ use Rattle.numbers.specs.Lists.{both, every}
 use Rattle.numbers.specs.Amounts.{is-negative}
 use Rattle.numbers.proofs.Lists.{both-fst, both-snd}
 use Rattle.point_day.specs.Limits.{USERS}
-use Rattle.plain_day.specs.Layout.{LENGTH, USERS-AT, LAST-NUMBER, part, up-to, head-laid-out, is-laid-out}
+use Rattle.plain_day.specs.Layout.{LENGTH, USERS-AT, LAST-NUMBER, part, up-to, head-readable, is-readable}
 
 pub up-to-le : (m : ℕ) (z : ℤ) → up-to m z ≡ true → natAbs z ≤ m
 unfolding up-to
@@ -22,18 +22,18 @@ up-to-le m z e = leb-true (natAbs z) m (both-snd (not (is-negative z)) (leb (nat
 
 -- ---- numbers that a point-day is read from
 
-module _ (xs : List ℤ) (e : is-laid-out xs ≡ true) where
+module _ (xs : List ℤ) (e : is-readable xs ≡ true) where
   abbrev rest : Bool
-  rest = both (head-laid-out (atZ xs 1) (atZ xs 2) (atZ xs 3) (atZ xs 4) (atZ xs 5) (atZ xs 6)) (every (up-to LAST-NUMBER) (part USERS-AT USERS xs))
+  rest = both (head-readable (atZ xs 1) (atZ xs 2) (atZ xs 3) (atZ xs 4) (atZ xs 5) (atZ xs 6)) (every (up-to LAST-NUMBER) (part USERS-AT USERS xs))
 
   pub laid-length : length xs ≡ LENGTH
-  unfolding is-laid-out
+  unfolding is-readable
   laid-length = eqb-true (length xs) LENGTH (both-fst (eqb (length xs) LENGTH) rest e)
 
   pub laid-users : every (up-to LAST-NUMBER) (part USERS-AT USERS xs) ≡ true
-  unfolding is-laid-out
+  unfolding is-readable
   laid-users =
-      both-snd (head-laid-out (atZ xs 1) (atZ xs 2) (atZ xs 3) (atZ xs 4) (atZ xs 5) (atZ xs 6)) (every (up-to LAST-NUMBER) (part USERS-AT USERS xs)) (both-snd (eqb (length xs) LENGTH) rest e)
+      both-snd (head-readable (atZ xs 1) (atZ xs 2) (atZ xs 3) (atZ xs 4) (atZ xs 5) (atZ xs 6)) (every (up-to LAST-NUMBER) (part USERS-AT USERS xs)) (both-snd (eqb (length xs) LENGTH) rest e)
 
   -- a part of them
   pub part-length : (from n : ℕ) → from + n ≤ LENGTH → length (part from n xs) ≡ n

@@ -53,19 +53,19 @@ unfoldable pub up-to : ℕ → ℤ → Bool
 up-to m z = both (not (is-negative z)) (leb (natAbs z) m)
 
 -- measured is 0, or 1 and neither emission is negative
-unfoldable pub measurement-laid-out : ℤ → ℤ → ℤ → Bool
-measurement-laid-out measured emission downstream =
+unfoldable pub measurement-readable : ℤ → ℤ → ℤ → Bool
+measurement-readable measured emission downstream =
     both (up-to 1 measured) (either (eqb (natAbs measured) 0) (both (not (is-negative emission)) (not (is-negative downstream))))
 
 -- the six numbers before the users
-unfoldable pub head-laid-out : ℤ → ℤ → ℤ → ℤ → ℤ → ℤ → Bool
-head-laid-out stage allotted measured emission downstream count =
-    both (up-to 2 stage) (both (up-to 1 allotted) (both (not (is-negative count)) (measurement-laid-out measured emission downstream)))
+unfoldable pub head-readable : ℤ → ℤ → ℤ → ℤ → ℤ → ℤ → Bool
+head-readable stage allotted measured emission downstream count =
+    both (up-to 2 stage) (both (up-to 1 allotted) (both (not (is-negative count)) (measurement-readable measured emission downstream)))
 
-unfoldable pub is-laid-out : List ℤ → Bool
-is-laid-out xs =
+unfoldable pub is-readable : List ℤ → Bool
+is-readable xs =
     both (eqb (length xs) LENGTH)
-    (both (head-laid-out (atZ xs 1) (atZ xs 2) (atZ xs 3) (atZ xs 4) (atZ xs 5) (atZ xs 6))
+    (both (head-readable (atZ xs 1) (atZ xs 2) (atZ xs 3) (atZ xs 4) (atZ xs 5) (atZ xs 6))
     (every (up-to LAST-NUMBER) (part USERS-AT USERS xs)))
 
 -- ---- the point-day that the numbers stand for

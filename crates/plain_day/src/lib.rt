@@ -1,10 +1,14 @@
 // A point-day in plain numbers: where they stand, and whether a point-day can be read from them.
+pub mod from_numbers;
+pub mod head;
+pub mod to_numbers;
+
 ghost use mathlib.Core.Path.{_≡_};
 ghost use mathlib.Core.List.{_++_};
 ghost use Prim.Native.Nat.{_+_, _≤_};
 ghost use lib.ListN.{length, take, drop};
 ghost use Rattle.numbers.specs.Lists.{every};
-ghost use Rattle.plain_day.specs.Layout.{up-to, measurement-laid-out, head-laid-out, is-laid-out};
+ghost use Rattle.plain_day.specs.Layout.{up-to, measurement-readable, head-readable, is-readable};
 use point_day::CELLS;
 use point_day::USERS;
 
@@ -50,8 +54,8 @@ fn all_up_to(xs: &[i64], most: u64) -> bool
     true
 }
 
-fn measurement_laid_out(measured: i64, emission: i64, downstream: i64) -> bool
-    ensures { λ r. ⌜ r ≡ measurement-laid-out measured emission downstream ⌝ }
+fn measurement_readable(measured: i64, emission: i64, downstream: i64) -> bool
+    ensures { λ r. ⌜ r ≡ measurement-readable measured emission downstream ⌝ }
 {
     if !up_to(measured, 1) {
         return false;
@@ -65,7 +69,7 @@ fn measurement_laid_out(measured: i64, emission: i64, downstream: i64) -> bool
     !numbers::is_negative(downstream)
 }
 
-fn head_laid_out(
+fn head_readable(
     stage: i64,
     allotted: i64,
     measured: i64,
@@ -73,7 +77,7 @@ fn head_laid_out(
     downstream: i64,
     count: i64,
 ) -> bool
-    ensures { λ r. ⌜ r ≡ head-laid-out stage allotted measured emission downstream count ⌝ }
+    ensures { λ r. ⌜ r ≡ head-readable stage allotted measured emission downstream count ⌝ }
 {
     if !up_to(stage, 2) {
         return false;
@@ -84,16 +88,16 @@ fn head_laid_out(
     if numbers::is_negative(count) {
         return false;
     }
-    measurement_laid_out(measured, emission, downstream)
+    measurement_readable(measured, emission, downstream)
 }
 
-pub fn is_laid_out(xs: &[i64]) -> bool
-    ensures { λ r. ⌜ r ≡ is-laid-out (now (xs .entry)) ⌝ }
+pub fn is_readable(xs: &[i64]) -> bool
+    ensures { λ r. ⌜ r ≡ is-readable (now (xs .entry)) ⌝ }
 {
     if xs.len() != LENGTH {
         return false;
     }
-    if !head_laid_out(xs[1], xs[2], xs[3], xs[4], xs[5], xs[6]) {
+    if !head_readable(xs[1], xs[2], xs[3], xs[4], xs[5], xs[6]) {
         return false;
     }
     all_up_to(&xs[USERS_AT..CONSUMPTION_AT], LAST_NUMBER)

@@ -1,12 +1,11 @@
 -- Facts of every element of a list, by places. Assumes nothing.
 use mathlib.Core.Path.{_≡_, refl, ap, _∙_}
 use mathlib.Core.Bool.{true}
-use mathlib.Core.List.{List, [], _∷_, map}
+use mathlib.Core.List.{List, [], _∷_, map, zipWith}
 use Prim.Native.Nat.{ℕ, zero, suc, _≤_, _<_}
 use native.Mathlib.Omega.{arith}
 use lib.ListN.{length, getD, length-map}
 use Rattle.numbers.specs.Sums.{sum, at, total}
-use Rattle.numbers.specs.Lists.{zip}
 use Rattle.numbers.proofs.Lists.{All, never}
 use Rattle.numbers.proofs.Sums.{total-sum, sum-eq}
 use Rattle.point_day.specs.Day.{some}
@@ -45,8 +44,8 @@ map-at f a b (x ∷ xs) (suc i) l = map-at f a b xs i (omega arith)
 
 module _ {A B C : Type 0} (f : A → B → C) (a : A) (b : B) where
   pub zip-at : (c : C) (xs : List A) (ys : List B) → length xs ≡ length ys → (i : ℕ) → i < length xs
-      → getD (zip f xs ys) i c ≡ f (getD xs i a) (getD ys i b)
-  unfolding zip
+      → getD (zipWith f xs ys) i c ≡ f (getD xs i a) (getD ys i b)
+  unfolding zipWith
   zip-at c [] ys e i l = absurd (omega arith)
   zip-at c (x ∷ xs) [] e i l = absurd (omega arith)
   zip-at c (x ∷ xs) (y ∷ ys) e zero l = refl
@@ -54,8 +53,8 @@ module _ {A B C : Type 0} (f : A → B → C) (a : A) (b : B) where
 
   -- of every element and its neighbour
   pub all-zip-at : (P : C → Type 0) (xs : List A) (ys : List B) → length xs ≡ length ys
-      → ((i : ℕ) → i < length xs → P (f (getD xs i a) (getD ys i b))) → All P (zip f xs ys)
-  unfolding zip
+      → ((i : ℕ) → i < length xs → P (f (getD xs i a) (getD ys i b))) → All P (zipWith f xs ys)
+  unfolding zipWith
   all-zip-at P [] ys e h = tt
   all-zip-at P (x ∷ xs) [] e h = absurd (omega arith)
   all-zip-at P (x ∷ xs) (y ∷ ys) e h = (h 0 (omega arith), all-zip-at P xs ys (omega arith) (λ i l. h (suc i) (omega arith)))

@@ -1,7 +1,7 @@
 -- Allot, stand-in and an assigned revision keep the invariant, and settle the net. Assumes nothing.
 use mathlib.Core.Path.{_≡_, refl, sym, ap, _∙_, subst⁻¹}
 use mathlib.Core.Bool.{Bool, true}
-use mathlib.Core.List.{List, [], _∷_, map}
+use mathlib.Core.List.{List, [], _∷_, map, zipWith}
 use Prim.Native.Nat.{ℕ, _-_, _≤_}
 use native.Mathlib.Omega.{arith}
 use lib.Dec.{leb, eqb}
@@ -9,7 +9,7 @@ use lib.IntN.{ℤ, pos, natAbs, _+ℤ_, _-ℤ_, +ℤ-idl, +ℤ-comm, +ℤ-negℤ
 use lib.ListN.{length, length-map}
 use borrow.Author.Tests.{le-leb, leb-true, not-false}
 use Rattle.numbers.specs.Sums.{totalZ}
-use Rattle.numbers.specs.Lists.{both, every, distinct, rising, zip}
+use Rattle.numbers.specs.Lists.{both, every, distinct, rising}
 use Rattle.numbers.specs.Amounts.{is-negative}
 use Rattle.numbers.proofs.Lists.{All, never, both-fst, both-snd, every-all, all-map, all-map₂, all-zip, zip-length, map-zip, map-map, rising-distinct}
 use Rattle.numbers.proofs.Amounts.{NonNeg, pos-is, size-sub, within-sub}
@@ -17,7 +17,7 @@ use Rattle.proration.specs.Proration.{prorateZ}
 use Rattle.proration.proofs.Signs.{lengthZ}
 use Rattle.point_day.specs.Limits.{USERS, LAST-NUMBER, LIMIT, AMOUNT, ROWS}
 use Rattle.point_day.specs.Day.{User, Day, numbers, offtake, all-offtake, whole, all-whole, net, net-of, is-measured, some, no-more, is-number, measurement-right, provisional}
-use Rattle.point_day.specs.Calls.{accept, verdict, by-basis, none-estimated, or-kind-1, kinds, day-balance, user-shares, with-share, balanced, allot, revised, Pair, users-of, amounts-of, row-right, nearest-filled, opened, stand-in, assigned, assign}
+use Rattle.point_day.specs.Calls.{accept, verdict, by-basis, none-in-2-to-5, or-kind-1, kinds, day-balance, user-shares, with-share, balanced, allot, revised, Pair, users-of, amounts-of, row-right, nearest-filled, opened, stand-in, assigned, assign}
 use Rattle.point_day.specs.Struct.{sum-right}
 use Rattle.point_day.specs.declared.Measurement.{Measurement}
 use Rattle.point_day.specs.declared.Measurement.the-variants.{Unmeasured, Measured}
@@ -76,13 +76,13 @@ allot-good d s g v =
     }
   where
     all : Bool
-    all = none-estimated (d .users)
+    all = none-in-2-to-5 (d .users)
 
     long : length (balanced d) ≡ length (d .users)
     long = unfold balanced in zip-length (with-share all) (d .users) (user-shares d) (shares-long d)
 
-    map-share : {B : Type 0} (f : User → B) → ((u : User) (z : ℤ) → f (with-share (none-estimated (d .users)) u z) ≡ f u) → map f (balanced d) ≡ map f (d .users)
-    map-share f h = unfold balanced in map-zip f f (with-share (none-estimated (d .users))) h (d .users) (user-shares d) (shares-long d)
+    map-share : {B : Type 0} (f : User → B) → ((u : User) (z : ℤ) → f (with-share (none-in-2-to-5 (d .users)) u z) ≡ f u) → map f (balanced d) ≡ map f (d .users)
+    map-share f h = unfold balanced in map-zip f f (with-share (none-in-2-to-5 (d .users))) h (d .users) (user-shares d) (shares-long d)
 
     each : (P Q : User → Type 0) → ((u : User) (z : ℤ) → P u → natAbs z ≤ natAbs (day-balance d) → Q (with-share all u z))
         → All P (d .users) → All (λ z. natAbs z ≤ natAbs (day-balance d)) (user-shares d) → All Q (balanced d)
@@ -154,7 +154,7 @@ opened-good ps d row found m measured =
       wholes = small-sum (opened (net d) ps) wholes (rw sum (net-small (d .measurement) m));
       sum = rw (map-zip offtake offtake revised (λ u z. refl) us zs long) (omega (arith, newcomers-none ps));
       standing = record {
-        some-user = length-some (zip revised us zs) (omega (arith, zip-length revised us zs long));
+        some-user = length-some (zipWith revised us zs) (omega (arith, zip-length revised us zs long));
         measured = measured;
         adds-up = sum;
         range = net-range (d .measurement) m;

@@ -13,7 +13,7 @@ use Rattle.numbers.proofs.Sums.{sum-eq, sum-add, total-sum}
 use Rattle.proration.specs.Proration.{prorateZ}
 use Rattle.point_day.specs.Limits.{KINDS}
 use Rattle.point_day.specs.Day.{User, Day, numbers, offtake, whole}
-use Rattle.point_day.specs.Calls.{of-kinds, of-estimated, none-estimated, by-basis, or-kind-1, user-shares, with-share, balanced, revised, Pair, users-of, amounts-of, opened, assigned}
+use Rattle.point_day.specs.Calls.{of-kinds, of-2-to-5, none-in-2-to-5, by-basis, or-kind-1, user-shares, with-share, balanced, revised, Pair, users-of, amounts-of, opened, assigned}
 use Rattle.point_day.proofs.Arrays.{Full}
 use Rattle.point_day.proofs.Each.{all-at, map-at, zip-at, total-places}
 use Rattle.point_day.proofs.Wholes.{kinds-sum, shares-long, newcomer, opened-long, assigned-long}
@@ -47,20 +47,20 @@ module _ (u : User) (h : Full u) where
       places xs e = total-sum xs ∙ ap (sum (at xs)) e
 
   -- of kinds 2 to 5
-  estimated-at : (j : ℕ) → j < KINDS - 1 → at (drop 1 (of-kinds u)) j ≡ offtake-at u (suc j)
-  estimated-at j l = tail-at (of-kinds u) j ∙ kinds-at (suc j) (omega arith)
+  at-2-to-5 : (j : ℕ) → j < KINDS - 1 → at (drop 1 (of-kinds u)) j ≡ offtake-at u (suc j)
+  at-2-to-5 j l = tail-at (of-kinds u) j ∙ kinds-at (suc j) (omega arith)
 
-  pub estimated-total : total (of-estimated u) ≡ sum (λ j. offtake-at u (suc j)) (KINDS - 1)
+  pub total-2-to-5 : total (of-2-to-5 u) ≡ sum (λ j. offtake-at u (suc j)) (KINDS - 1)
   unfolding total
-  estimated-total =
+  total-2-to-5 =
       let rest = drop 1 (of-kinds u) in
       let four : length rest ≡ KINDS - 1 = omega (arith, length-drop 1 (of-kinds u), long) in
-      omega (arith, total-sum rest ∙ ap (sum (at rest)) four ∙ sum-eq (at rest) (λ j. offtake-at u (suc j)) (KINDS - 1) estimated-at)
+      omega (arith, total-sum rest ∙ ap (sum (at rest)) four ∙ sum-eq (at rest) (λ j. offtake-at u (suc j)) (KINDS - 1) at-2-to-5)
 
   -- by the basis
   pub basis-total : (all : Bool) → total (by-basis all u) ≡ pick all (sum (offtake-at u) KINDS) (sum (λ j. offtake-at u (suc j)) (KINDS - 1))
   basis-total true = kinds-total
-  basis-total false = estimated-total
+  basis-total false = total-2-to-5
 
   pub basis-first : (all : Bool) → at (by-basis all u) 0 ≡ pick all (offtake-at u 0) 0
   basis-first true = kinds-at 0 (omega arith)
@@ -68,20 +68,20 @@ module _ (u : User) (h : Full u) where
 
   pub basis-later : (all : Bool) (j : ℕ) → suc j < KINDS → at (by-basis all u) (suc j) ≡ offtake-at u (suc j)
   basis-later true j l = kinds-at (suc j) l
-  basis-later false j l = estimated-at j (omega arith)
+  basis-later false j l = at-2-to-5 j (omega arith)
 
   pub basis-long : (all : Bool) → length (by-basis all u) ≡ KINDS
   basis-long true = long
   basis-long false = omega (arith, length-drop 1 (of-kinds u), long)
 
 -- "these are zero for all users"
-pub none-estimated-is : (us : List User) → All Full us → (x : User)
-    → none-estimated us ≡ eqb (sum (λ i. sum (λ j. offtake-at (getD us i x) (suc j)) (KINDS - 1)) (length us)) 0
-none-estimated-is us h x =
+pub none-in-2-to-5-is : (us : List User) → All Full us → (x : User)
+    → none-in-2-to-5 us ≡ eqb (sum (λ i. sum (λ j. offtake-at (getD us i x) (suc j)) (KINDS - 1)) (length us)) 0
+none-in-2-to-5-is us h x =
     ap (λ n. eqb n 0)
-    (total-places (λ v. total (of-estimated v)) x us
-    ∙ sum-eq (λ i. total (of-estimated (getD us i x))) (λ i. sum (λ j. offtake-at (getD us i x) (suc j)) (KINDS - 1)) (length us)
-    (λ i l. estimated-total (getD us i x) (all-at Full x us h i l)))
+    (total-places (λ v. total (of-2-to-5 v)) x us
+    ∙ sum-eq (λ i. total (of-2-to-5 (getD us i x))) (λ i. sum (λ j. offtake-at (getD us i x) (suc j)) (KINDS - 1)) (length us)
+    (λ i l. total-2-to-5 (getD us i x) (all-at Full x us h i l)))
 
 -- "if those are all zero, kind 1's proportion is the whole"
 pub kind-1-at : (ws : List ℕ) (j : ℕ) → j < KINDS → at (or-kind-1 ws) j ≡ pick (eqb (total ws) 0) (pick (eqb j 0) 1 0) (at ws j)
@@ -103,19 +103,19 @@ kind-1-at ws j l = go (eqb (total ws) 0)
 
 -- allot: the user at place i, and its balance over all kinds
 pub balanced-at : (d : Day) (x : User) (i : ℕ) → i < length (d .users)
-    → getD (balanced d) i x ≡ with-share (none-estimated (d .users)) (getD (d .users) i x) (atZ (user-shares d) i)
+    → getD (balanced d) i x ≡ with-share (none-in-2-to-5 (d .users)) (getD (d .users) i x) (atZ (user-shares d) i)
 unfolding balanced
-balanced-at d x i l = zip-at (with-share (none-estimated (d .users))) x (pos 0) x (d .users) (user-shares d) (shares-long d) i l
+balanced-at d x i l = zip-at (with-share (none-in-2-to-5 (d .users))) x (pos 0) x (d .users) (user-shares d) (shares-long d) i l
 
 pub balance-at : (d : Day) → All Full (d .users) → (x : User) (i : ℕ) → i < length (d .users)
     → totalZ (getD (balanced d) i x .balance) ≡ atZ (user-shares d) i
 balance-at d h x i l =
     ap (λ (u : User). totalZ (u .balance)) (balanced-at d x i l)
-    ∙ kinds-sum (none-estimated (d .users)) (getD (d .users) i x) (all-at Full x (d .users) h i l) (atZ (user-shares d) i)
+    ∙ kinds-sum (none-in-2-to-5 (d .users)) (getD (d .users) i x) (all-at Full x (d .users) h i l) (atZ (user-shares d) i)
 
 pub balanced-long : (d : Day) → length (balanced d) ≡ length (d .users)
 unfolding balanced
-balanced-long d = zip-length (with-share (none-estimated (d .users))) (d .users) (user-shares d) (shares-long d)
+balanced-long d = zip-length (with-share (none-in-2-to-5 (d .users))) (d .users) (user-shares d) (shares-long d)
 
 -- stand-in: a newcomer's revision
 pub opened-at : (z : ℤ) (ps : List Pair) (x : User) (i : ℕ) → i < length ps

@@ -1,7 +1,7 @@
 -- Whole amounts after allot, stand-in and revise, on any sound day: they add up to net, and none is above 1,000,000,000 in size. Assumes nothing.
 use mathlib.Core.Path.{_≡_, refl, sym, ap, ap₂, _∙_, subst⁻¹}
 use mathlib.Core.Bool.{Bool, true, false, not}
-use mathlib.Core.List.{List, [], _∷_, map}
+use mathlib.Core.List.{List, [], _∷_, map, zipWith}
 use mathlib.Core.Logic.{⊎-elim, _⊎_, inl, inr}
 use Prim.Native.Nat.{ℕ, zero, suc, _+_, _-_, _≤_, _<_}
 use native.Mathlib.Omega.{arith}
@@ -10,7 +10,7 @@ use lib.IntN.{ℤ, pos, negsuc, negℤ, natAbs, _+ℤ_, _-ℤ_, +ℤ-idl, +ℤ-i
 use lib.ListN.{length, getD, length-map, length-drop}
 use borrow.Author.Tests.{le-leb, ltb-true, ltb-false, le-ltb, not-true, not-false}
 use Rattle.numbers.specs.Sums.{pick, at, atZ, total, totalZ}
-use Rattle.numbers.specs.Lists.{every, has, distinct, zip}
+use Rattle.numbers.specs.Lists.{every, has, distinct}
 use Rattle.numbers.specs.Amounts.{is-negative, Between}
 use Rattle.numbers.proofs.Sums.{cases}
 use Rattle.numbers.proofs.Lists.{All, true≢false, never, all-every, every-all, all-map, all-map₂, all-zip, zip-length, map-zip, map-map, distinct-is}
@@ -20,7 +20,7 @@ use Rattle.proration.proofs.Signs.{lengthZ, totalZ-is}
 use Rattle.proration.proofs.Fairness.{share-sign, share-size, share-capped}
 use Rattle.point_day.specs.Limits.{KINDS, LIMIT, AMOUNT}
 use Rattle.point_day.specs.Day.{User, Day, empty-user, numbers, offtake, all-offtake, whole, all-whole, net, some, too-large}
-use Rattle.point_day.specs.Calls.{of-kinds, by-basis, none-estimated, or-kind-1, kinds, day-balance, user-shares, with-share, balanced, revised, Pair, users-of, amounts-of, negative, opened, assigned}
+use Rattle.point_day.specs.Calls.{of-kinds, by-basis, none-in-2-to-5, or-kind-1, kinds, day-balance, user-shares, with-share, balanced, revised, Pair, users-of, amounts-of, negative, opened, assigned}
 use Rattle.point_day.proofs.Arrays.{Full, nobody}
 use Rattle.point_day.proofs.Each.{all-at, at-all, all-of-map, map-of-all, map-at, all-zip-at, all-parts, some-length}
 use Rattle.point_day.proofs.Sound.{Bare, Sound, bare-all, net-pos, net-small}
@@ -106,14 +106,14 @@ small-right us h =
 -- ---- allot
 
 abbrev weights : Day → List ℕ
-weights d = map (λ u. total (by-basis (none-estimated (d .users)) u)) (d .users)
+weights d = map (λ u. total (by-basis (none-in-2-to-5 (d .users)) u)) (d .users)
 
 pub shares-long : (d : Day) → length (d .users) ≡ length (user-shares d)
 shares-long d = sym (lengthZ (day-balance d) (weights d) (numbers (d .users)) ∙ length-map (d .users) _)
 
 balance-sum : (all : Bool) (us : List User) (zs : List ℤ) → length us ≡ length zs → All Full us → All Bare us
-    → all-whole (zip (with-share all) us zs) ≡ pos (all-offtake us) +ℤ totalZ zs
-unfolding zip totalZ total
+    → all-whole (zipWith (with-share all) us zs) ≡ pos (all-offtake us) +ℤ totalZ zs
+unfolding zipWith totalZ total
 balance-sum all [] [] l f b = refl
 balance-sum all [] (z ∷ zs) l f b = absurd (omega arith)
 balance-sum all (u ∷ us) [] l f b = absurd (omega arith)
@@ -152,7 +152,7 @@ module _ (d : Day) (s : Sound d) (e : d .allotted ≡ false) (filled : some (d .
   us = d .users
 
   abbrev all : Bool
-  all = none-estimated us
+  all = none-in-2-to-5 us
 
   bare : All Bare us
   bare = s .entering e
@@ -238,8 +238,8 @@ whole-revised u z =
     ap (λ x. pos (offtake u) +ℤ x) (sym (+ℤ-assoc (totalZ (u .balance)) (u .revision) z))
     ∙ sym (+ℤ-assoc (pos (offtake u)) (totalZ (u .balance) +ℤ u .revision) z)
 
-pub revised-sum : (us : List User) (zs : List ℤ) → length us ≡ length zs → all-whole (zip revised us zs) ≡ all-whole us +ℤ totalZ zs
-unfolding zip totalZ
+pub revised-sum : (us : List User) (zs : List ℤ) → length us ≡ length zs → all-whole (zipWith revised us zs) ≡ all-whole us +ℤ totalZ zs
+unfolding zipWith totalZ
 revised-sum [] [] l = refl
 revised-sum [] (z ∷ zs) l = absurd (omega arith)
 revised-sum (u ∷ us) [] l = absurd (omega arith)

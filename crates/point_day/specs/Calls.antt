@@ -1,13 +1,13 @@
 -- Document 01, section "The point-day", the seven calls: for each its tests in the order of section "Refusals", its answer and the
 -- day after it. Assumes nothing.
 use mathlib.Core.Bool.{Bool, true, false, not}
-use mathlib.Core.List.{List, [], _∷_, _++_, map}
+use mathlib.Core.List.{List, [], _∷_, _++_, map, zipWith}
 use Prim.Native.Nat.{ℕ, suc, _+_, _-_, _*_}
 use lib.Dec.{leb, ltb, eqb}
 use lib.IntN.{ℤ, pos, natAbs, _+ℤ_, _-ℤ_}
 use lib.ListN.{length, drop, getD, set}
 use Rattle.numbers.specs.Sums.{pick, total}
-use Rattle.numbers.specs.Lists.{both, either, every, has, rising, zip}
+use Rattle.numbers.specs.Lists.{both, either, every, has, rising}
 use Rattle.numbers.specs.Amounts.{is-negative}
 use Rattle.numbers.specs.Nearest.{nearest}
 pub use Rattle.numbers.specs.Refusals.{Test, _when_, Verdict, refuse, accept}
@@ -120,20 +120,20 @@ measure emission downstream d = record {
 
 -- consumption plus losses of each kind
 abbrev pub of-kinds : User → List ℕ
-of-kinds u = zip _+_ (u .consumption) (u .losses)
+of-kinds u = zipWith _+_ (u .consumption) (u .losses)
 
 -- the same of kinds 2 to 5, kind 1 counting 0
-abbrev pub of-estimated : User → List ℕ
-of-estimated u = 0 ∷ drop 1 (of-kinds u)
+abbrev pub of-2-to-5 : User → List ℕ
+of-2-to-5 u = 0 ∷ drop 1 (of-kinds u)
 
 -- "these are zero for all users"
-abbrev pub none-estimated : List User → Bool
-none-estimated us = eqb (total (map (λ v. total (of-estimated v)) us)) 0
+abbrev pub none-in-2-to-5 : List User → Bool
+none-in-2-to-5 us = eqb (total (map (λ v. total (of-2-to-5 v)) us)) 0
 
 -- "prorated over users by consumption plus losses of kinds 2 to 5; if these are zero for all users, of all kinds":
 -- the weights of a user's kinds, decided over all users at once
 abbrev pub by-basis : Bool → User → List ℕ
-by-basis all u = pick all (of-kinds u) (of-estimated u)
+by-basis all u = pick all (of-kinds u) (of-2-to-5 u)
 
 -- "if those are all zero, kind 1's proportion is the whole"
 abbrev pub or-kind-1 : List ℕ → List ℕ
@@ -149,14 +149,14 @@ day-balance d = net d -ℤ pos (all-offtake (d .users))
 -- the users' shares of it
 abbrev pub user-shares : Day → List ℤ
 user-shares d =
-    prorateZ (day-balance d) (map (λ u. total (by-basis (none-estimated (d .users)) u)) (d .users)) (numbers (d .users))
+    prorateZ (day-balance d) (map (λ u. total (by-basis (none-in-2-to-5 (d .users)) u)) (d .users)) (numbers (d .users))
 
 -- "Then each user's share is prorated over that user's kinds with the same weights"
 abbrev pub with-share : Bool → User → ℤ → User
 with-share all u z = with-balance (prorateZ z (or-kind-1 (by-basis all u)) kinds) u
 
 unfoldable pub balanced : Day → List User
-balanced d = zip (with-share (none-estimated (d .users))) (d .users) (user-shares d)
+balanced d = zipWith (with-share (none-in-2-to-5 (d .users))) (d .users) (user-shares d)
 
 unfoldable pub allot : Day → Move
 allot d = record {
@@ -202,7 +202,7 @@ negative zs = not (every (λ z. not (is-negative z)) zs)
 -- "Its users join, and net is prorated over them by those amounts, as revision": opening a day with a list
 unfoldable pub opened : ℤ → List Pair → List User
 opened z ps =
-    zip revised (map (λ (p : Pair). empty-user (p .user)) ps) (prorateZ z (map natAbs (amounts-of ps)) (users-of ps))
+    zipWith revised (map (λ (p : Pair). empty-user (p .user)) ps) (prorateZ z (map natAbs (amounts-of ps)) (users-of ps))
 
 -- z is at most t
 abbrev pub at-most : ℕ → ℤ → Bool
@@ -227,7 +227,7 @@ stand-in tolerance rows d = record {
 
 -- "R is prorated by each user's whole amount, added to the revisions"
 unfoldable pub assigned : ℤ → List User → List User
-assigned R us = zip revised us (prorateZ R (map (λ u. natAbs (whole u)) us) (numbers us))
+assigned R us = zipWith revised us (prorateZ R (map (λ u. natAbs (whole u)) us) (numbers us))
 
 abbrev pub not-revisable : Day → Bool
 not-revisable d = not (both (provisional (d .stage)) (d .allotted))

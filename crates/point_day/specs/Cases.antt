@@ -1,9 +1,9 @@
 -- Cases of the seven calls, worked by hand from document 01 and computed through the point-day's arrays. Assumes nothing.
-use mathlib.Core.List.{List, [], _∷_, map}
+use mathlib.Core.List.{List, [], _∷_, map, zipWith}
 use mathlib.Core.Path.{_≡_, refl}
 use lib.IntN.{pos, negℤ}
 use Rattle.numbers.specs.Sums.{sum, table, total, totalZ}
-use Rattle.numbers.specs.Lists.{every, has, distinct, rising, flat, zip}
+use Rattle.numbers.specs.Lists.{every, has, distinct, rising, flat}
 use Rattle.numbers.specs.Nearest.{nearest}
 use Rattle.proration.specs.Proration.{before, left, share, split, counted, prorate, prorateZ}
 use Rattle.point_day.specs.Limits.{LIMIT, TOLERANCE}
@@ -15,7 +15,7 @@ use Rattle.point_day.specs.declared.PointDay.{PointDay}
 -- the point-day after a call; to unfold it is to compute it
 infixl 5 _then_
 unfoldable _then_ : PointDay → (Day → Move) → PointDay
-unfolding called taken faults any laid padded read user-at fresh verdict join line line-right cell-step cell-in measure allot balanced stand-in nearest-filled looked-at opened revise-by assigned start-final prorateZ prorate counted split share left before nearest every has distinct rising flat zip sum table total totalZ
+unfolding called taken faults any laid padded read user-at fresh verdict join line line-right cell-step cell-in measure allot balanced stand-in nearest-filled looked-at opened revise-by assigned start-final prorateZ prorate counted split share left before nearest every has distinct rising flat zipWith sum table total totalZ
 d then m = called m d .day
 
 -- ---- line: losses are nearest, halves up, and count in the sum of the point-day
@@ -45,10 +45,10 @@ entered =
     then line 4 5 10 5000
 
 -- 19 by 10 and 21 is 6 and 13; 13 by 10 and 11 is 6 and 7
-by-estimated : map (λ (u : User). u .balance) (read (entered then allot) .users)
+by-2-to-5 : map (λ (u : User). u .balance) (read (entered then allot) .users)
     ≡ (pos 0 ∷ pos 6 ∷ pos 0 ∷ pos 0 ∷ pos 0 ∷ []) ∷ (pos 0 ∷ pos 0 ∷ pos 6 ∷ pos 0 ∷ pos 7 ∷ []) ∷ []
 unfolding entered _then_
-by-estimated = refl
+by-2-to-5 = refl
 
 -- ---- revise
 

@@ -63,20 +63,20 @@ pub fn count_ahead(rems: &[u64], keys: &[u64], x: u64, y: u64) -> u64
 }
 
 // The whole units of each party, and its remainder; returns the sum of the whole units.
-pub fn floors(amount: u64, ws: &[u64], whole: u64, shares: &mut [u64], rems: &mut [u64]) -> u64
-    requires { ⌜ (amount ≤ LARGEST-AMOUNT) × (0 < whole) × (whole ≡ total (now ws)) × Bounded LARGEST-WEIGHT (now ws) ⌝ }
+pub fn floors(amount: u64, ws: &[u64], weight_sum: u64, shares: &mut [u64], rems: &mut [u64]) -> u64
+    requires { ⌜ (amount ≤ LARGEST-AMOUNT) × (0 < «weight_sum») × («weight_sum» ≡ total (now ws)) × Bounded LARGEST-WEIGHT (now ws) ⌝ }
     requires { ⌜ (length (now ws) ≤ length (now shares)) × (length (now rems) ≡ length (now ws)) ⌝ }
-    ensures { λ x. ⌜ x ≡ sum (floor amount whole (at (now (ws .entry)))) (length (now (ws .entry))) ⌝ }
-    ensures { λ x. ⌜ now (shares .exit) ≡ table (floor amount whole (at (now (ws .entry)))) (length (now (ws .entry))) ++ drop (length (now (ws .entry))) (now (shares .entry)) ⌝ }
-    ensures { λ x. ⌜ now (rems .exit) ≡ table (rem amount whole (at (now (ws .entry)))) (length (now (ws .entry))) ⌝ }
+    ensures { λ x. ⌜ x ≡ sum (floor amount «weight_sum» (at (now (ws .entry)))) (length (now (ws .entry))) ⌝ }
+    ensures { λ x. ⌜ now (shares .exit) ≡ table (floor amount «weight_sum» (at (now (ws .entry)))) (length (now (ws .entry))) ++ drop (length (now (ws .entry))) (now (shares .entry)) ⌝ }
+    ensures { λ x. ⌜ now (rems .exit) ≡ table (rem amount «weight_sum» (at (now (ws .entry)))) (length (now (ws .entry))) ⌝ }
 {
     let mut given: u64 = 0;
     let mut i = 0;
     while i < ws.len() {
         let x = amount * ws[i];
-        let f = x / whole;
+        let f = x / weight_sum;
         shares[i] = f;
-        rems[i] = x % whole;
+        rems[i] = x % weight_sum;
         given += f;
         i += 1;
     }

@@ -9,13 +9,20 @@ use super::leftover;
 use super::leftover::FEW;
 use proration::PARTIES;
 
-// The shares of the amount over weights whose sum, `whole`, is above 0; `rems` is scratch.
-fn split(amount: u64, ws: &[u64], whole: u64, keys: &[u64], rems: &mut [u64], shares: &mut [u64])
-    requires { ⌜ (amount ≤ LARGEST-AMOUNT) × (0 < whole) × (whole ≡ total (now ws)) × Bounded LARGEST-WEIGHT (now ws) ⌝ }
+// The shares of the amount over weights whose sum, `weight_sum`, is above 0; `rems` is scratch.
+fn split(
+    amount: u64,
+    ws: &[u64],
+    weight_sum: u64,
+    keys: &[u64],
+    rems: &mut [u64],
+    shares: &mut [u64],
+)
+    requires { ⌜ (amount ≤ LARGEST-AMOUNT) × (0 < «weight_sum») × («weight_sum» ≡ total (now ws)) × Bounded LARGEST-WEIGHT (now ws) ⌝ }
     requires { ⌜ (length (now ws) ≤ length (now keys)) × (length (now rems) ≡ length (now ws)) × (length (now ws) ≤ length (now shares)) ⌝ }
     ensures { λ _. ⌜ now (shares .exit) ≡ split amount (now (ws .entry)) (now (keys .entry)) ++ drop (length (now (ws .entry))) (now (shares .entry)) ⌝ }
 {
-    let given = proration::floors(amount, ws, whole, shares, rems);
+    let given = proration::floors(amount, ws, weight_sum, shares, rems);
     leftover::serve(rems, keys, amount - given, shares);
 }
 
@@ -32,19 +39,19 @@ pub(crate) fn many(x: u64) -> [u64; PARTIES]
     [x; PARTIES]
 }
 
-// The shares of the amount over weights whose sum, `whole`, is above 0.
-fn split_counted(amount: u64, ws: &[u64], whole: u64, keys: &[u64], shares: &mut [u64])
-    requires { ⌜ (amount ≤ LARGEST-AMOUNT) × (0 < whole) × (whole ≡ total (now ws)) × (length (now ws) ≤ PARTIES) × Bounded LARGEST-WEIGHT (now ws) ⌝ }
+// The shares of the amount over weights whose sum, `weight_sum`, is above 0.
+fn split_counted(amount: u64, ws: &[u64], weight_sum: u64, keys: &[u64], shares: &mut [u64])
+    requires { ⌜ (amount ≤ LARGEST-AMOUNT) × (0 < «weight_sum») × («weight_sum» ≡ total (now ws)) × (length (now ws) ≤ PARTIES) × Bounded LARGEST-WEIGHT (now ws) ⌝ }
     requires { ⌜ (length (now ws) ≤ length (now keys)) × (length (now ws) ≤ length (now shares)) ⌝ }
     ensures { λ _. ⌜ now (shares .exit) ≡ split amount (now (ws .entry)) (now (keys .entry)) ++ drop (length (now (ws .entry))) (now (shares .entry)) ⌝ }
 {
     let n = ws.len();
     if n <= FEW {
         let mut rems = few(0);
-        split(amount, ws, whole, keys, &mut rems[..n], shares);
+        split(amount, ws, weight_sum, keys, &mut rems[..n], shares);
     } else {
         let mut rems = many(0);
-        split(amount, ws, whole, keys, &mut rems[..n], shares);
+        split(amount, ws, weight_sum, keys, &mut rems[..n], shares);
     }
 }
 
@@ -62,16 +69,16 @@ fn split_evenly(amount: u64, n: usize, keys: &[u64], shares: &mut [u64])
     }
 }
 
-// The amount prorated over the weights, whose sum `whole` is handed in: each counts as 1 if all are 0. Numbers of `shares` past
+// The amount prorated over the weights, whose sum `weight_sum` is handed in: each counts as 1 if all are 0. Numbers of `shares` past
 // the parties stay.
-pub fn prorate(amount: u64, ws: &[u64], whole: u64, keys: &[u64], shares: &mut [u64])
-    requires { ⌜ (amount ≤ LARGEST-AMOUNT) × (whole ≡ total (now ws)) × (0 < length (now ws)) × (length (now ws) ≤ PARTIES) × Bounded LARGEST-WEIGHT (now ws) ⌝ }
+pub fn prorate(amount: u64, ws: &[u64], weight_sum: u64, keys: &[u64], shares: &mut [u64])
+    requires { ⌜ (amount ≤ LARGEST-AMOUNT) × («weight_sum» ≡ total (now ws)) × (0 < length (now ws)) × (length (now ws) ≤ PARTIES) × Bounded LARGEST-WEIGHT (now ws) ⌝ }
     requires { ⌜ (length (now ws) ≤ length (now keys)) × (length (now ws) ≤ length (now shares)) ⌝ }
     ensures { λ _. ⌜ now (shares .exit) ≡ prorate amount (now (ws .entry)) (now (keys .entry)) ++ drop (length (now (ws .entry))) (now (shares .entry)) ⌝ }
 {
-    if whole == 0 {
+    if weight_sum == 0 {
         split_evenly(amount, ws.len(), keys, shares);
     } else {
-        split_counted(amount, ws, whole, keys, shares);
+        split_counted(amount, ws, weight_sum, keys, shares);
     }
 }

@@ -37,32 +37,32 @@ fn give(negative: bool, shares: &[u64], out: &mut [i64])
 fn split_signed(
     amount: i64,
     ws: &[u64],
-    whole: u64,
+    weight_sum: u64,
     keys: &[u64],
     shares: &mut [u64],
     out: &mut [i64],
 )
-    requires { ⌜ Within LARGEST-AMOUNT amount × (whole ≡ total (now ws)) × (0 < length (now ws)) × (length (now ws) ≤ PARTIES) × Bounded LARGEST-WEIGHT (now ws) ⌝ }
+    requires { ⌜ Within LARGEST-AMOUNT amount × («weight_sum» ≡ total (now ws)) × (0 < length (now ws)) × (length (now ws) ≤ PARTIES) × Bounded LARGEST-WEIGHT (now ws) ⌝ }
     requires { ⌜ (length (now ws) ≤ length (now keys)) × (length (now shares) ≡ length (now ws)) × (length (now ws) ≤ length (now out)) ⌝ }
     ensures { λ _. ⌜ now (out .exit) ≡ prorateZ amount (now (ws .entry)) (now (keys .entry)) ++ drop (length (now (ws .entry))) (now (out .entry)) ⌝ }
 {
-    largest_remainder::prorate(numbers::size(amount), ws, whole, keys, shares);
+    largest_remainder::prorate(numbers::size(amount), ws, weight_sum, keys, shares);
     give(numbers::is_negative(amount), shares, out);
 }
 
-// The signed amount prorated over the weights, whose sum `whole` is handed in. Numbers of `out` past the parties stay.
-pub fn prorate_signed(amount: i64, ws: &[u64], whole: u64, keys: &[u64], out: &mut [i64])
-    requires { ⌜ Within LARGEST-AMOUNT amount × (whole ≡ total (now ws)) × (0 < length (now ws)) × (length (now ws) ≤ PARTIES) × Bounded LARGEST-WEIGHT (now ws) ⌝ }
+// The signed amount prorated over the weights, whose sum `weight_sum` is handed in. Numbers of `out` past the parties stay.
+pub fn prorate_signed(amount: i64, ws: &[u64], weight_sum: u64, keys: &[u64], out: &mut [i64])
+    requires { ⌜ Within LARGEST-AMOUNT amount × («weight_sum» ≡ total (now ws)) × (0 < length (now ws)) × (length (now ws) ≤ PARTIES) × Bounded LARGEST-WEIGHT (now ws) ⌝ }
     requires { ⌜ (length (now ws) ≤ length (now keys)) × (length (now ws) ≤ length (now out)) ⌝ }
     ensures { λ _. ⌜ now (out .exit) ≡ prorateZ amount (now (ws .entry)) (now (keys .entry)) ++ drop (length (now (ws .entry))) (now (out .entry)) ⌝ }
 {
     let n = ws.len();
     if n <= FEW {
         let mut shares = largest_remainder::few(0);
-        split_signed(amount, ws, whole, keys, &mut shares[..n], out);
+        split_signed(amount, ws, weight_sum, keys, &mut shares[..n], out);
     } else {
         let mut shares = largest_remainder::many(0);
-        split_signed(amount, ws, whole, keys, &mut shares[..n], out);
+        split_signed(amount, ws, weight_sum, keys, &mut shares[..n], out);
     }
 }
 

@@ -18,7 +18,7 @@ use Rattle.proration.specs.Proration.{PARTIES, LARGEST-WEIGHT, LARGEST-AMOUNT, 
 use Rattle.proration.proofs.Prorated.{take-long}
 use Rattle.point_day.specs.Limits.{AMOUNT}
 use Rattle.point_day.specs.Day.{no-more}
-use Rattle.columns.specs.Rooms.{ROOM}
+use Rattle.columns.specs.Summable.{SUMMABLE}
 use Rattle.columns.proofs.Shared.{sizes-long, sizes-bounded}
 use Rattle.numbers.proofs.Lists.{both-fst, both-snd}
 use Rattle.spread.specs.Period.{in-range, days, parts}
@@ -31,8 +31,8 @@ within-range [] e i = record { size = omega arith }
 within-range (w ∷ ws) e zero = within-test w (both-fst (no-more AMOUNT w) _ e)
 within-range (w ∷ ws) e (suc i) = within-range ws (both-snd (no-more AMOUNT w) _ e) i
 
-pub weight-room : (ws : List ℤ) → every (no-more AMOUNT) ws ≡ true → (i : ℕ) → Within ROOM (atZ ws i)
-weight-room ws e i = widen (within-range ws e i) (omega arith)
+pub weight-summable : (ws : List ℤ) → every (no-more AMOUNT) ws ≡ true → (i : ℕ) → Within SUMMABLE (atZ ws i)
+weight-summable ws e i = widen (within-range ws e i) (omega arith)
 
 pub days-distinct : (n : ℕ) → Distinct (days n)
 days-distinct n i j l m e =

@@ -59,8 +59,8 @@ fn prorate_days(reading: u64, weights: &[i64], sizes: &mut [u64], keys: &mut [u6
 {
     columns::sizes_of(weights, sizes);
     write_days(keys);
-    let whole = proration::weight_total(sizes);
-    split::prorate_signed(reading as i64, sizes, whole, keys, out);
+    let weight_sum = proration::weight_total(sizes);
+    split::prorate_signed(reading as i64, sizes, weight_sum, keys, out);
 }
 
 // The same, with the scratch that it needs.

@@ -3,7 +3,7 @@ use mathlib.Core.Bool.{true, false}
 use mathlib.Core.List.{List}
 use mathlib.Core.Path.{_≡_}
 use Prim.Native.Nat.{ℕ, _+_, _*_, _≤_, _<_}
-use lib.IntN.{ℤ, _+ℤ_}
+use lib.IntN.{ℤ, pos, _+ℤ_}
 use lib.ListN.{length, take, getD}
 use Rattle.numbers.specs.Sums.{sumZ, atZ}
 use Rattle.numbers.specs.Lists.{has}
@@ -29,6 +29,14 @@ ROOM = 10000000000
 abbrev pub Small : List ℤ → Type 0
 Small xs = (i : ℕ) → Within ROOM (atZ xs i)
 
+-- 2^33 - 1: amounts from 0 to it are small, and all of them are if their bits together are
+abbrev pub LOW : ℕ
+LOW = 8589934591
+
+-- consumption and losses of slot s lie in 0 .. LOW
+abbrev pub LowSlot : List ℤ → List ℤ → ℕ → Type 0
+LowSlot cs ls s = (k : ℕ) → 0 ≤ k → k < KINDS → Between (pos 0) (pos LOW) (atZ cs (KINDS * s + k)) × Between (pos 0) (pos LOW) (atZ ls (KINDS * s + k))
+
 -- lists as long as a point-day's arrays
 pub record Lengths (cs ls bs rs : List ℤ) : Type 0 where
   pub consumption : length cs ≡ CELLS
@@ -37,7 +45,7 @@ pub record Lengths (cs ls bs rs : List ℤ) : Type 0 where
   pub revision : length rs ≡ USERS
 
 -- a point-day whose whole amounts can be summed
-pub record Laid (d : PointDay) : Type 0 where
+pub record Summable (d : PointDay) : Type 0 where
   pub few : d .count ≤ USERS
   pub consumption : Small (d .consumption)
   pub losses : Small (d .losses)
@@ -46,9 +54,14 @@ pub record Laid (d : PointDay) : Type 0 where
   pub above : none-below (d .consumption) ≡ true
   pub above-losses : none-below (d .losses) ≡ true
 
--- consumption, losses and balance of a cell; the whole amount of slot s
+-- consumption, losses and balance of a cell
 abbrev pub cellZ : List ℤ → List ℤ → List ℤ → ℕ → ℤ
 cellZ cs ls bs i = (atZ cs i +ℤ atZ ls i) +ℤ atZ bs i
 
+-- consumption and losses of slot s
+abbrev pub offtake-at : List ℤ → List ℤ → ℕ → ℤ
+offtake-at cs ls s = sumZ (λ k. atZ cs (KINDS * s + k) +ℤ atZ ls (KINDS * s + k)) KINDS
+
+-- the whole amount of slot s
 abbrev pub whole-at : List ℤ → List ℤ → List ℤ → List ℤ → ℕ → ℤ
 whole-at cs ls bs rs s = sumZ (λ k. cellZ cs ls bs (KINDS * s + k)) KINDS +ℤ atZ rs s

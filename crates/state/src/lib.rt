@@ -3,12 +3,13 @@ ghost use mathlib.Core.Path.{_≡_};
 ghost use mathlib.Core.Bool.{true};
 ghost use mathlib.Core.List.{map, _++_};
 ghost use Prim.Native.Nat.{_+_, _≤_, _<_};
-ghost use lib.IntN.{pos, natAbs};
+ghost use lib.IntN.{pos, natAbs, _+ℤ_};
 ghost use lib.ListN.{length, drop, replicate};
-ghost use Rattle.numbers.specs.Sums.{table, total};
+ghost use Rattle.numbers.specs.Sums.{table, total, atZ};
+ghost use Rattle.numbers.specs.Amounts.{Within, Decides};
 ghost use Rattle.point_day.specs.Limits.{USERS, CELLS, LIMIT};
 ghost use Rattle.point_day.specs.Day.{is-measured, net-of, emission-right, measurement-right, provisional};
-ghost use Rattle.state.specs.Places.{Placed, From, Small, Lengths, cellZ, whole-at};
+ghost use Rattle.state.specs.Places.{Placed, From, ROOM, Small, Lengths, LowSlot, cellZ, offtake-at, whole-at};
 use point_day::KINDS;
 use point_day::LIMIT;
 use point_day::Measurement;
@@ -36,6 +37,48 @@ pub fn offtake<'a>(consumption: &'a [i64], losses: &'a [i64]) -> u64
     ensures { λ r. ⌜ r ≡ total (map natAbs (now (consumption .entry))) + total (map natAbs (now (losses .entry))) ⌝ }
 {
     (numbers::sum_of(consumption) + numbers::sum_of(losses)) as u64
+}
+
+// The greatest amount of which all sums fit well into 64 bits, and whose bits are all ones.
+const LOW: i64 = 8589934591;
+
+// Whether a user's consumption and losses lie in 0 to LOW: their bits are gathered, and tested once.
+pub fn user_low<'a>(consumption: &'a [i64], losses: &'a [i64], slot: usize) -> bool
+    requires { ⌜ (slot < USERS) × (length (now consumption) ≡ CELLS) × (length (now losses) ≡ CELLS) ⌝ }
+    ensures { λ r. ⌜ Decides r (LowSlot (now (consumption .entry)) (now (losses .entry)) slot) ⌝ }
+{
+    let mut bits: i64 = 0;
+    let mut k = 0;
+    while k < KINDS {
+        bits = bits | consumption[KINDS * slot + k] | losses[KINDS * slot + k];
+        k += 1;
+    }
+    if bits < 0 {
+        return false;
+    }
+    bits <= LOW
+}
+
+// Consumption and losses of a cell.
+fn cell_offtake<'a>(consumption: &'a [i64], losses: &'a [i64], i: usize) -> i64
+    requires { ⌜ (i < CELLS) × Within ROOM (atZ (now consumption) i) × Within ROOM (atZ (now losses) i) × (length (now consumption) ≡ CELLS) × (length (now losses) ≡ CELLS) ⌝ }
+    ensures { λ r. ⌜ r ≡ atZ (now (consumption .entry)) i +ℤ atZ (now (losses .entry)) i ⌝ }
+{
+    consumption[i] + losses[i]
+}
+
+// A user's consumption and losses.
+pub fn user_offtake<'a>(consumption: &'a [i64], losses: &'a [i64], slot: usize) -> i64
+    requires { ⌜ (slot < USERS) × LowSlot (now consumption) (now losses) slot × (length (now consumption) ≡ CELLS) × (length (now losses) ≡ CELLS) ⌝ }
+    ensures { λ r. ⌜ r ≡ offtake-at (now (consumption .entry)) (now (losses .entry)) slot ⌝ }
+{
+    let mut sum: i64 = 0;
+    let mut k = 0;
+    while k < KINDS {
+        sum = sum + cell_offtake(consumption, losses, KINDS * slot + k);
+        k += 1;
+    }
+    sum
 }
 
 // Consumption, losses and balance of a cell.

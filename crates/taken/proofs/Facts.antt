@@ -1,34 +1,39 @@
 -- A point-day is taken if and only if each test of the code holds. Assumes nothing.
 use mathlib.Core.Path.{_≡_, refl, sym, ap, _∙_}
 use mathlib.Core.Bool.{Bool, true, false, not}
-use mathlib.Core.List.{List, [], _∷_, map}
+use mathlib.Core.List.{List, [], _∷_, _++_, map}
 use mathlib.Core.Logic.{⊎-elim}
 use Prim.Native.Nat.{ℕ, _+_, _*_, _/_, _%_, _≤_, _<_}
 use native.Mathlib.Omega.{arith}
 use lib.Dec.{eqb}
 use lib.IntN.{ℤ, pos, negℤ, natAbs}
 use lib.ListN.{length, getD, take, drop, List·getD-map}
-use lib.Seq.{getD-take, getD-drop}
+use lib.Seq.{getD-take, getD-drop, take-at}
+use mir.Syntax.{w64}
+use mir.Val.{ofZ, toZ}
 use borrow.Author.Tests.{le-leb, leb-true, eqb-true, eq-eqb, not-true, not-false}
-use Rattle.numbers.specs.Sums.{sumZ, table, at, atZ, total}
+use Rattle.numbers.specs.Sums.{sumZ, table, at, atZ, total, totalZ}
 use Rattle.numbers.specs.Lists.{every, has, distinct}
-use Rattle.numbers.specs.Amounts.{Between, Decides, is-negative}
+use Rattle.numbers.specs.Amounts.{Within, Between, Decides, is-negative}
+use Rattle.numbers.proofs.Amounts.{back}
 use Rattle.numbers.proofs.Places.{every-at, at-every, every-from, from-every}
-use Rattle.numbers.proofs.Sums.{lt-or-ge, length-table, getD-table, table-take, at-total, sumZ-eq}
+use Rattle.numbers.proofs.Sums.{lt-or-ge, length-table, getD-table, table-take, at-total, sumZ-eq, totalZ-table}
 use Rattle.numbers.proofs.Lists.{true≢false, never, both-fst, both-snd, both-true, every-all, all-table}
 use Rattle.point_day.specs.Limits.{USERS, CELLS, KINDS, LIMIT, AMOUNT}
-use Rattle.point_day.specs.Day.{User, numbers, whole, is-measured, some, no-more, is-zero, measurement-right, too-large}
+use Rattle.point_day.specs.Day.{User, numbers, all-offtake, whole, all-whole, is-measured, some, no-more, is-zero, measurement-right, too-large}
 use Rattle.point_day.specs.Struct.{Sized, kinds-of, user-at, read, none-past, none-below, unallotted, amounts-right, sum-right, taken}
 use Rattle.point_day.specs.declared.Measurement.{Measurement}
 use Rattle.point_day.specs.declared.PointDay.{PointDay}
 use Rattle.point_day.proofs.Taken.{Past, Taken, taken-facts, facts-taken}
+use Rattle.point_day.proofs.Sound.{bare-all, taken-sound}
 use Rattle.point_day.proofs.Back.{map-table, every-take, every-drop}
-use Rattle.state.specs.Places.{From, ROOM, Small, Laid, Lengths, whole-at}
+use Rattle.state.specs.Places.{From, ROOM, Small, Summable, Lengths, whole-at}
 use Rattle.state.proofs.Cells.{zero-between, between-zero, between-sign, low-size, nonneg-between, between-size, size-between, within-from, low-from}
 use Rattle.state.proofs.Totals.{kinds-long, offtake-is, whole-is, wholes-are}
-use Rattle.amount_ranges.specs.Ranges.{Cells, Arrays, Wholes}
+use Rattle.taken.specs.Ranges.{Cells, Arrays, Wholes}
 use Rattle.point_day.specs.Fields.{point-day}
 use Rattle.taken.specs.Standing.{Stands}
+use Rattle.taken.specs.Tested.{any-large}
 use Rattle.point_day.specs.declared.Stage.{Stage}
 
 abbrev pub wholes-of : PointDay → ℕ → ℤ
@@ -48,7 +53,7 @@ pub record Facts (d : PointDay) : Type 0 where
 
 -- ---- the user numbers
 
-numbers-are : (d : PointDay) → d .count ≤ length (d .users) → numbers (read d .users) ≡ take (d .count) (d .users)
+pub numbers-are : (d : PointDay) → d .count ≤ length (d .users) → numbers (read d .users) ≡ take (d .count) (d .users)
 unfolding read user-at
 numbers-are d l = map-table (λ (u : User). u .number) (user-at d) (d .count) ∙ table-take 0 (d .users) (d .count) l
 
@@ -59,7 +64,7 @@ unfolding read
 every-user d p e s l =
     ap p (sym (getD-table (user-at d) (d .count) s (user-at d s) l)) ∙ every-at p (user-at d s) (table (user-at d) (d .count)) e s (omega (arith, length-table (user-at d) (d .count)))
 
-all-users : (d : PointDay) (p : User → Bool) → ((s : ℕ) → s < d .count → p (user-at d s) ≡ true) → every p (read d .users) ≡ true
+pub all-users : (d : PointDay) (p : User → Bool) → ((s : ℕ) → s < d .count → p (user-at d s) ≡ true) → every p (read d .users) ≡ true
 unfolding read
 all-users d p h = every-all p (table (user-at d) (d .count)) (all-table (λ u. p u ≡ true) (user-at d) (d .count) h)
 
@@ -97,6 +102,14 @@ slot-cells p xs s e = every-take p KINDS (drop (KINDS * s) xs) (every-drop p (KI
 signs-right : (xs : List ℤ) → From 0 (pos 0) (pos LIMIT) xs → none-below xs ≡ true
 signs-right xs h = at-every (λ z. not (is-negative z)) (pos 0) xs (λ i l. ap not (between-sign (atZ xs i) (h i (omega arith) l)))
 
+-- neither balance nor revision
+pub bare : (d : PointDay) → Sized d → d .count ≤ USERS → From 0 (pos 0) (pos 0) (d .balance) × From 0 (pos 0) (pos 0) (d .revision) → (s : ℕ) → s < d .count → unallotted (user-at d s) ≡ true
+unfolding user-at
+bare d z f b s l =
+    both-true
+    (slot-cells is-zero (d .balance) s (at-every is-zero (pos 0) (d .balance) (λ i m. between-zero (atZ (d .balance) i) (b .0 i (omega arith) m))))
+    (between-zero (atZ (d .revision) s) (b .1 s (omega arith) (omega (arith, z .revision))))
+
 -- ---- from the code's tests to the sentence
 
 module _ (d : PointDay) (z : Sized d) (f : Facts d) where
@@ -128,16 +141,9 @@ module _ (d : PointDay) (z : Sized d) (f : Facts d) where
       (slot-cells (no-more AMOUNT) (d .balance) s (sizes-right (KINDS * d .count) (d .balance) (f .arrays .balance)))
       (every-at (no-more AMOUNT) (pos 0) (d .revision) (sizes-right (d .count) (d .revision) (f .arrays .revision)) s (omega (arith, z .revision, f .few)))
 
-  bare : From 0 (pos 0) (pos 0) (d .balance) × From 0 (pos 0) (pos 0) (d .revision) → (s : ℕ) → s < d .count → unallotted (user-at d s) ≡ true
-  unfolding user-at
-  bare b s l =
-      both-true
-      (slot-cells is-zero (d .balance) s (at-every is-zero (pos 0) (d .balance) (λ i m. between-zero (atZ (d .balance) i) (b .0 i (omega arith) m))))
-      (between-zero (atZ (d .revision) s) (b .1 s (omega arith) (omega (arith, z .revision, f .few))))
-
   entering-right : (p : Bool) → Stands p (d .count) (d .measurement) (d .balance) (d .revision) → p ≡ false → every unallotted (read d .users) ≡ true
   entering-right true h e = true≢false e
-  entering-right false h e = all-users d unallotted (bare h)
+  entering-right false h e = all-users d unallotted (bare d z (f .few) h)
 
   standing-right : (p : Bool) → Stands p (d .count) (d .measurement) (d .balance) (d .revision) → p ≡ true → (some (read d .users) ≡ true) × (is-measured (d .measurement) ≡ true)
   standing-right true h e = (some-users d (h .0), h .1)
@@ -282,8 +288,8 @@ small-parts {cs = cs} {ls = ls} {bs = bs} {rs = rs} a = (
   within-from AMOUNT rs (λ i l q. between-size (atZ rs i) (a .revision .range i l q)) ROOM (omega arith),
 )
 
-pub laid-day : (d : PointDay) → Sized d → d .count ≤ USERS → Arrays (d .count) (d .consumption) (d .losses) (d .balance) (d .revision) → Laid d
-laid-day d z l a = record {
+pub summable-day : (d : PointDay) → Sized d → d .count ≤ USERS → Arrays (d .count) (d .consumption) (d .losses) (d .balance) (d .revision) → Summable d
+summable-day d z l a = record {
   few = l;
   consumption = small-parts a .0;
   losses = small-parts a .1;
@@ -293,8 +299,49 @@ laid-day d z l a = record {
   above-losses = signs-right (d .losses) (a .losses .range);
 }
 
+-- the sum of the whole amounts of a taken point-day
+module _ (d : PointDay) (z : Sized d) (e : taken d ≡ true) where
+  pub taken-summable : Summable d
+  taken-summable = summable-day d z (facts d z e .few) (facts d z e .arrays)
+
+  pub taken-sum : (xs : List ℤ) → xs ≡ table (wholes-of d) (d .count) → totalZ xs ≡ all-whole (read d .users)
+  taken-sum xs q =
+      ap totalZ q ∙ totalZ-table (wholes-of d) (d .count) ∙ sym (wholes-are d z (taken-summable .above) (taken-summable .above-losses) (taken-summable .few))
+
+  -- as the code holds it
+  pub sum-kept : {x : ℤ} → x ≡ all-whole (read d .users) → toZ w64 (ofZ w64 x) ≡ all-whole (read d .users)
+  sum-kept {x} q =
+      let h : Within LIMIT x = record { size = rw q (leb-true (natAbs (all-whole (read d .users))) LIMIT (both-snd (not (is-negative (all-whole (read d .users)))) _ (taken-facts d e .sum))) } in
+      back h (omega arith) ∙ q
+
+-- the first n of a column that is filled so far
+pub first-wholes : (f : ℕ → ℤ) (n : ℕ) (before : List ℤ) {xs : List ℤ} → xs ≡ table f n ++ drop n before → take n xs ≡ table f n
+first-wholes f n before e = ap (take n) e ∙ take-at (table f n) (drop n before) n (length-table f n)
+
+-- an entering point-day: the sum of its whole amounts is its consumption and losses
+pub entering-sum : (d : PointDay) → Sized d → taken d ≡ true → d .allotted ≡ false → all-whole (read d .users) ≡ pos (all-offtake (read d .users))
+entering-sum d z t e = bare-all (read d .users) (taken-sound d z (taken-facts d t) .entering (unfold read in e))
+
+-- two answers that decide the same
+same-answer : {P : Type 0} (r q : Bool) → Decides r P → Decides q P → r ≡ q
+same-answer true true h k = refl
+same-answer true false h k = absurd (k .no refl (h .yes refl))
+same-answer false true h k = absurd (h .no refl (k .yes refl))
+same-answer false false h k = refl
+
+-- refusal 12, on a column of whole amounts
+sizes-decided : (xs : List ℤ) → Decides (every (no-more AMOUNT) xs) (From 0 (negℤ (pos AMOUNT)) (pos AMOUNT) xs)
+sizes-decided xs = record {
+  yes = λ t i l m. size-between (atZ xs i) (leb-true (natAbs (atZ xs i)) AMOUNT (every-at (no-more AMOUNT) (pos 0) xs t i m));
+  no = λ t h. true≢false
+      (sym (at-every (no-more AMOUNT) (pos 0) xs (λ i l. le-leb (natAbs (atZ xs i)) AMOUNT (between-size (atZ xs i) (h i (omega arith) l)))) ∙ t);
+}
+
+pub any-large-by : (xs : List ℤ) (r : Bool) → Decides r (From 0 (negℤ (pos AMOUNT)) (pos AMOUNT) xs) → not r ≡ any-large xs
+any-large-by xs r h = ap not (same-answer r (every (no-more AMOUNT) xs) h (sizes-decided xs))
+
 -- refusal 12
-module _ (d : PointDay) (z : Sized d) (l : Laid d) (xs : List ℤ) (e : xs ≡ table (wholes-of d) (d .count)) where
+module _ (d : PointDay) (z : Sized d) (l : Summable d) (xs : List ℤ) (e : xs ≡ table (wholes-of d) (d .count)) where
   small-at : (s : ℕ) → s < d .count → natAbs (atZ xs s) ≡ natAbs (whole (user-at d s))
   small-at s m =
       ap natAbs (ap (λ t. atZ t s) e ∙ getD-table (wholes-of d) (d .count) s (pos 0) m ∙ sym (whole-is d z (l .above) (l .above-losses) s (omega (arith, l .few))))
@@ -313,6 +360,10 @@ module _ (d : PointDay) (z : Sized d) (l : Laid d) (xs : List ℤ) (e : xs ≡ t
           let n : s < d .count = omega (arith, ap length e, length-table (wholes-of d) (d .count)) in
           size-between (atZ xs s) (rw (small-at s n) (leb-true (natAbs (whole (user-at d s))) AMOUNT (every-user d (λ u. no-more AMOUNT (whole u)) q s n)))))
       go false q = refl
+
+-- the column of the users' whole amounts
+pub any-large-is : (d : PointDay) → Sized d → Summable d → (xs : List ℤ) → xs ≡ table (wholes-of d) (d .count) → any-large xs ≡ too-large (read d .users)
+any-large-is d z l xs e = too-large-by d z l xs e (every (no-more AMOUNT) xs) (sizes-decided xs)
 
 module _ (n : ℕ) (m : Measurement) (bs rs : List ℤ) where
   pub stands-bare : (p r : Bool) → p ≡ false → Decides r (From 0 (pos 0) (pos 0) bs × From 0 (pos 0) (pos 0) rs) → Decides r (Stands p n m bs rs)

@@ -1,1 +1,4 @@
 pub mod Standing
+pub mod Tested
+pub mod Buckets
+pub mod Ranges

@@ -1,24 +1,31 @@
 // Whether a point-day is taken, and whether a whole amount of it is too large.
+pub mod amount_ranges;
+pub mod user_numbers;
+
 ghost use mathlib.Core.Path.{_≡_};
-ghost use Prim.Native.Nat.{_≤_};
-ghost use lib.IntN.{pos};
+ghost use mathlib.Core.Bool.{false};
+ghost use Prim.Native.Nat.{ℕ, _≤_};
 ghost use lib.ListN.{length};
-ghost use Rattle.numbers.specs.Amounts.{Decides};
-ghost use Rattle.point_day.specs.Limits.{USERS};
-ghost use Rattle.point_day.specs.Day.{measurement-right, too-large};
-ghost use Rattle.point_day.specs.Struct.{Sized, read, taken};
-ghost use Rattle.state.specs.Places.{From, Small, Laid, Lengths, whole-at};
-ghost use Rattle.amount_ranges.specs.Ranges.{Wholes};
+ghost use Rattle.numbers.specs.Sums.{atZ, totalZ};
+ghost use Rattle.numbers.specs.Amounts.{Within, Decides};
+ghost use Rattle.point_day.specs.Limits.{USERS, CELLS};
+ghost use Rattle.point_day.specs.Day.{measurement-right};
+ghost use Rattle.point_day.specs.Struct.{taken};
+ghost use Rattle.state.specs.Places.{Lengths, offtake-at, whole-at};
+ghost use Rattle.taken.specs.Ranges.{Wholes};
 ghost use Rattle.point_day.specs.Fields.{point-day};
-ghost use Rattle.taken.specs.Standing.{Stands};
+ghost use Rattle.taken.specs.Tested.{TestedState, Found, Head, Offtakes, Entering, Allotted, any-large};
 ghost use Rattle.point_day.specs.declared.Stage.{Stage};
 use amount_ranges::GREATEST;
 use amount_ranges::LEAST;
 use point_day::CELLS;
+use point_day::KINDS;
 use point_day::LIMIT;
 use point_day::Measurement;
-use point_day::PointDay;
 use point_day::USERS;
+
+// The greatest sum.
+const SUM: i64 = LIMIT as i64;
 
 // Whether the measurement is in range.
 fn measurement_right(measurement: Measurement) -> bool
@@ -30,71 +37,26 @@ fn measurement_right(measurement: Measurement) -> bool
     }
 }
 
-// Whether there is neither a balance nor a revision.
-fn nothing_allotted<'a>(balance: &'a [i64], revision: &'a [i64]) -> bool
-    ensures { λ r. ⌜ Decides r (From 0 (pos 0) (pos 0) (now (balance .entry)) × From 0 (pos 0) (pos 0) (now (revision .entry))) ⌝ }
+// What the test of a point-day finds: whether it is taken, and if so the sum of its whole amounts.
+pub struct StateTest {
+    pub taken: bool,
+    pub sum: i64,
+}
+
+// Not taken.
+fn untaken() -> StateTest
+    ensures { λ r. ⌜ r .taken ≡ false ⌝ }
 {
-    if !numbers::all_between(balance, 0, 0, 0) {
-        return false;
+    StateTest {
+        taken: false,
+        sum: 0,
     }
-    numbers::all_between(revision, 0, 0, 0)
 }
 
-// The last test: allotted with a user and a measurement, or entering with nothing allotted.
-fn stands<'a>(
-    allotted: bool,
-    count: usize,
-    measurement: Measurement,
-    balance: &'a [i64],
-    revision: &'a [i64],
-) -> bool
-    ensures { λ r. ⌜ Decides r (Stands allotted count measurement (now (balance .entry)) (now (revision .entry))) ⌝ }
-{
-    if !allotted {
-        return nothing_allotted(balance, revision);
-    }
-    if count == 0 {
-        return false;
-    }
-    state::is_measured(measurement)
-}
-
-// Whether the whole amounts of n users, and their sum, are in range.
-fn wholes_stand<'a>(
-    consumption: &'a [i64],
-    losses: &'a [i64],
-    balance: &'a [i64],
-    revision: &'a [i64],
-    n: usize,
-) -> bool
-    requires { ⌜ (n ≤ USERS) × Small (now consumption) × Small (now losses) × Small (now balance) × Small (now revision) × Lengths (now consumption) (now losses) (now balance) (now revision) ⌝ }
-    ensures { λ r. ⌜ Decides r (Wholes n (whole-at (now (consumption .entry)) (now (losses .entry)) (now (balance .entry)) (now (revision .entry)))) ⌝ }
-{
-    let mut wholes = point_day::no_amounts();
-    state::whole_amounts(consumption, losses, balance, revision, n, &mut wholes);
-    amount_ranges::wholes_right(&wholes[..n])
-}
-
-// The arrays have their lengths.
-fn sized(day: PointDay) -> bool
-    ensures { λ r. ⌜ Sized day ⌝ }
-{
-    true
-}
-
-// The tests of a point-day in parts: the count first, then each number, then sums, so that nothing overflows on any values.
-fn tests_pass<'a>(
-    allotted: bool,
-    measurement: Measurement,
-    n: usize,
-    users: &'a [u16],
-    consumption: &'a [i64],
-    losses: &'a [i64],
-    balance: &'a [i64],
-    revision: &'a [i64],
-) -> bool
-    requires { ⌜ (length (now users) ≡ USERS) × Lengths (now consumption) (now losses) (now balance) (now revision) ⌝ }
-    ensures { λ r. ⌜ ((stage : Stage) → r ≡ taken (point-day stage allotted measurement n (now (users .entry)) (now (consumption .entry)) (now (losses .entry)) (now (balance .entry)) (now (revision .entry)))) ⌝ }
+// Whether the number of users, the user numbers and the measurement are right.
+fn head_right(measurement: Measurement, n: usize, users: &[u16]) -> bool
+    requires { ⌜ length (now users) ≡ USERS ⌝ }
+    ensures { λ r. ⌜ Decides r (Head measurement n (now (users .entry))) ⌝ }
 {
     if USERS < n {
         return false;
@@ -105,24 +67,166 @@ fn tests_pass<'a>(
     if !user_numbers::numbers_right(users, n) {
         return false;
     }
-    if !amount_ranges::arrays_right(consumption, losses, balance, revision, n) {
-        return false;
-    }
-    if !measurement_right(measurement) {
-        return false;
-    }
-    if LIMIT < state::offtake(consumption, losses) {
-        return false;
-    }
-    if !wholes_stand(consumption, losses, balance, revision, n) {
-        return false;
-    }
-    stands(allotted, n, measurement, balance, revision)
+    measurement_right(measurement)
 }
 
-// Whether a point-day in point-day is taken, at any stage. The point-day are fields of a point-day by value, or point-day of a longer list; their
-// lengths are told to the compiler.
-pub fn parts_taken<'a>(
+// Consumption and losses of n users: each is tested before it is added, so that nothing overflows on any values.
+fn offtakes_test<'a>(
+    consumption: &'a [i64],
+    losses: &'a [i64],
+    n: usize,
+    wholes: &mut [i64],
+) -> StateTest
+    requires { ⌜ (n ≤ USERS) × (length (now consumption) ≡ CELLS) × (length (now losses) ≡ CELLS) × (length (now wholes) ≡ USERS) ⌝ }
+    ensures { λ r. ⌜ Found (Offtakes n (now (consumption .entry)) (now (losses .entry))) (offtake-at (now (consumption .entry)) (now (losses .entry))) n (now (wholes .entry)) r (now (wholes .exit)) ⌝ }
+{
+    let mut sum: i64 = 0;
+    let mut s = 0;
+    while s < n {
+        if !state::user_low(consumption, losses, s) {
+            return untaken();
+        }
+        let offtake = state::user_offtake(consumption, losses, s);
+        wholes[s] = offtake;
+        sum = sum + offtake;
+        s += 1;
+    }
+    StateTest {
+        taken: sum <= SUM,
+        sum: sum,
+    }
+}
+
+// The amounts of n users while entering: whole amounts are consumption and losses.
+fn entering_test<'a>(
+    n: usize,
+    consumption: &'a [i64],
+    losses: &'a [i64],
+    balance: &'a [i64],
+    revision: &'a [i64],
+    wholes: &mut [i64],
+) -> StateTest
+    requires { ⌜ (n ≤ USERS) × Lengths (now consumption) (now losses) (now balance) (now revision) × (length (now wholes) ≡ USERS) ⌝ }
+    ensures { λ r. ⌜ Found (Entering n (now (consumption .entry)) (now (losses .entry)) (now (balance .entry)) (now (revision .entry))) (offtake-at (now (consumption .entry)) (now (losses .entry))) n (now (wholes .entry)) r (now (wholes .exit)) ⌝ }
+{
+    if !numbers::all_zero(balance, 0) {
+        return untaken();
+    }
+    if !numbers::all_zero(revision, 0) {
+        return untaken();
+    }
+    if !numbers::all_zero(consumption, KINDS * n) {
+        return untaken();
+    }
+    if !numbers::all_zero(losses, KINDS * n) {
+        return untaken();
+    }
+    offtakes_test(consumption, losses, n, wholes)
+}
+
+// The amounts of n users once allotted: each number first, then sums, so that nothing overflows on any values.
+fn allotted_test<'a>(
+    measurement: Measurement,
+    n: usize,
+    consumption: &'a [i64],
+    losses: &'a [i64],
+    balance: &'a [i64],
+    revision: &'a [i64],
+    wholes: &mut [i64],
+) -> StateTest
+    requires { ⌜ (n ≤ USERS) × Lengths (now consumption) (now losses) (now balance) (now revision) × (length (now wholes) ≡ USERS) ⌝ }
+    ensures { λ r. ⌜ Found (Allotted measurement n (now (consumption .entry)) (now (losses .entry)) (now (balance .entry)) (now (revision .entry))) (whole-at (now (consumption .entry)) (now (losses .entry)) (now (balance .entry)) (now (revision .entry))) n (now (wholes .entry)) r (now (wholes .exit)) ⌝ }
+{
+    if n == 0 {
+        return untaken();
+    }
+    if !state::is_measured(measurement) {
+        return untaken();
+    }
+    if !amount_ranges::arrays_right(consumption, losses, balance, revision, n) {
+        return untaken();
+    }
+    if LIMIT < state::offtake(consumption, losses) {
+        return untaken();
+    }
+    state::whole_amounts(consumption, losses, balance, revision, n, wholes);
+    wholes_test(&wholes[..n])
+}
+
+// Whether whole amounts and their sum are in range.
+fn wholes_test(wholes: &[i64]) -> StateTest
+    requires { ⌜ (length (now wholes) ≤ USERS) × ((i : ℕ) → Within 1000000000000 (atZ (now wholes) i)) ⌝ }
+    ensures { λ r. ⌜ Decides (r .taken) (Wholes (length (now (wholes .entry))) (atZ (now (wholes .entry)))) × (r .sum ≡ totalZ (now (wholes .entry))) ⌝ }
+{
+    StateTest {
+        taken: amount_ranges::wholes_right(wholes),
+        sum: numbers::sum_of(wholes),
+    }
+}
+
+// The tests of a point-day in parts.
+fn parts_test<'a>(
+    allotted: bool,
+    measurement: Measurement,
+    n: usize,
+    users: &'a [u16],
+    consumption: &'a [i64],
+    losses: &'a [i64],
+    balance: &'a [i64],
+    revision: &'a [i64],
+    wholes: &mut [i64],
+) -> StateTest
+    requires { ⌜ (length (now users) ≡ USERS) × Lengths (now consumption) (now losses) (now balance) (now revision) × (length (now wholes) ≡ USERS) ⌝ }
+    ensures { λ r. ⌜ ((stage : Stage) → TestedState (point-day stage allotted measurement n (now (users .entry)) (now (consumption .entry)) (now (losses .entry)) (now (balance .entry)) (now (revision .entry))) (now (wholes .entry)) r (now (wholes .exit))) ⌝ }
+{
+    if !head_right(measurement, n, users) {
+        return untaken();
+    }
+    if allotted {
+        return allotted_test(
+            measurement,
+            n,
+            consumption,
+            losses,
+            balance,
+            revision,
+            wholes,
+        );
+    }
+    entering_test(n, consumption, losses, balance, revision, wholes)
+}
+
+// The test of a point-day in parts, at any stage; `wholes` then starts with its whole amounts. The parts are fields of a point-day by
+// value, or parts of a longer list; their lengths are told to the compiler.
+pub fn test_state<'a>(
+    allotted: bool,
+    measurement: Measurement,
+    n: usize,
+    users: &'a [u16],
+    consumption: &'a [i64],
+    losses: &'a [i64],
+    balance: &'a [i64],
+    revision: &'a [i64],
+    wholes: &mut [i64],
+) -> StateTest
+    requires { ⌜ (length (now users) ≡ USERS) × Lengths (now consumption) (now losses) (now balance) (now revision) × (length (now wholes) ≡ USERS) ⌝ }
+    ensures { λ r. ⌜ ((stage : Stage) → TestedState (point-day stage allotted measurement n (now (users .entry)) (now (consumption .entry)) (now (losses .entry)) (now (balance .entry)) (now (revision .entry))) (now (wholes .entry)) r (now (wholes .exit))) ⌝ }
+{
+    parts_test(
+        allotted,
+        measurement,
+        n,
+        &users[..USERS],
+        &consumption[..CELLS],
+        &losses[..CELLS],
+        &balance[..CELLS],
+        &revision[..USERS],
+        wholes,
+    )
+}
+
+// Whether a point-day in parts is taken, at any stage.
+pub fn is_taken<'a>(
     allotted: bool,
     measurement: Measurement,
     n: usize,
@@ -135,50 +239,24 @@ pub fn parts_taken<'a>(
     requires { ⌜ (length (now users) ≡ USERS) × Lengths (now consumption) (now losses) (now balance) (now revision) ⌝ }
     ensures { λ r. ⌜ ((stage : Stage) → r ≡ taken (point-day stage allotted measurement n (now (users .entry)) (now (consumption .entry)) (now (losses .entry)) (now (balance .entry)) (now (revision .entry)))) ⌝ }
 {
-    tests_pass(
+    let mut wholes = point_day::no_amounts();
+    let test = test_state(
         allotted,
         measurement,
         n,
-        &users[..USERS],
-        &consumption[..CELLS],
-        &losses[..CELLS],
-        &balance[..CELLS],
-        &revision[..USERS],
-    )
-}
-
-// Whether the point-day is taken; its arrays have their lengths in either case.
-pub fn is_taken(day: PointDay) -> bool
-    ensures { λ r. ⌜ (r ≡ taken day) × Sized day ⌝ }
-{
-    let sizes = sized(day);
-    parts_taken(
-        day.allotted,
-        day.measurement,
-        day.count,
-        &day.users,
-        &day.consumption,
-        &day.losses,
-        &day.balance,
-        &day.revision,
-    )
+        users,
+        consumption,
+        losses,
+        balance,
+        revision,
+        &mut wholes,
+    );
+    test.taken
 }
 
 // Refusal 12: whether a whole amount is too large.
-pub fn any_too_large(day: PointDay) -> bool
-    requires { ⌜ Laid day ⌝ }
-    ensures { λ r. ⌜ r ≡ too-large (read day .users) ⌝ }
+pub fn wholes_too_large(wholes: &[i64]) -> bool
+    ensures { λ r. ⌜ r ≡ any-large (now (wholes .entry)) ⌝ }
 {
-    let sizes = sized(day);
-    let n = day.count;
-    let mut wholes = point_day::no_amounts();
-    state::whole_amounts(
-        &day.consumption,
-        &day.losses,
-        &day.balance,
-        &day.revision,
-        n,
-        &mut wholes,
-    );
-    !numbers::all_between(&wholes[..n], 0, LEAST, GREATEST)
+    !numbers::all_between(wholes, 0, LEAST, GREATEST)
 }

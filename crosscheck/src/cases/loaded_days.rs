@@ -10,11 +10,18 @@ use crate::point_day::{Measurement, PointDay, Slot, Stage};
 const LEAST: i128 = i64::MIN as i128;
 const GREATEST: i128 = i64::MAX as i128;
 
-/// How many of the reasons fit into an input that has all vectors.
-const FEW: usize = 2;
+/// Taken ones, then one that is not taken for every reason.
+pub fn all(out: &mut Recorder) {
+    taken(out);
+    for (_, day) in untaken() {
+        out.load(&day);
+        out.show();
+        one_of_each_call(out);
+        out.inventory(3);
+    }
+}
 
-/// Taken ones.
-pub fn taken(out: &mut Recorder) {
+fn taken(out: &mut Recorder) {
     revised_out_of_range(out);
     negative_whole_amounts(out);
     cells_at_their_bounds(out);
@@ -23,31 +30,11 @@ pub fn taken(out: &mut Recorder) {
     full_and_unsorted(out);
 }
 
-/// One for every reason.
-pub fn all_untaken(out: &mut Recorder) {
-    record_untaken([untaken(), untaken_in_vectors()].concat(), out);
-}
-
-/// A few, for an input with the vectors: `replay-all` has some of the reasons.
-pub fn some_untaken(out: &mut Recorder) {
-    record_untaken(untaken().into_iter().take(FEW).collect(), out);
-}
-
 /// All of them: the taken ones and those that the calls on them reach, then the others.
 pub fn point_days() -> Vec<PointDay> {
     let mut recorder = Recorder::new(true);
     taken(&mut recorder);
-    let untaken = [untaken(), untaken_in_vectors()].concat();
-    recorder.point_days().into_iter().chain(untaken.into_iter().map(|(_, day)| day)).collect()
-}
-
-fn record_untaken(list: Vec<Untaken>, out: &mut Recorder) {
-    for (_, day) in list {
-        out.load(&day);
-        out.show();
-        one_of_each_call(out);
-        out.inventory(3);
-    }
+    recorder.point_days().into_iter().chain(untaken().into_iter().map(|(_, day)| day)).collect()
 }
 
 fn one_of_each_call(out: &mut Recorder) {
@@ -103,29 +90,6 @@ type Untaken = (&'static str, PointDay);
 fn changed(mut day: PointDay, change: &dyn Fn(&mut PointDay)) -> PointDay {
     change(&mut day);
     day
-}
-
-fn untaken_in_vectors() -> Vec<Untaken> {
-    let mut list: Vec<Untaken> = Vec::new();
-    let mut add = |reason, base: PointDay, change: &dyn Fn(&mut PointDay)| {
-        list.push((reason, changed(base, change)));
-    };
-    add("a number twice", entering(), &|day| day.slots[1].number = 7);
-    add("a number past the last user", entering(), &|day| day.slots[63].number = 1);
-    add("losses past the last user", entering(), &|day| day.slots[2].losses[4] = 1);
-    add("downstream above emission", entering(), &|day| {
-        day.measurement = Some(Measurement { emission: 5, downstream: 6 });
-    });
-    add("consumption −1", allotted(), &|day| {
-        day.slots[0].consumption[2] = -1;
-        day.slots[0].balance[2] = 1;
-    });
-    add("whole amounts −1 together", allotted(), &|day| day.slots[0].revision = -51);
-    add("whole amounts 1,000,000,001 together", allotted(), &|day| {
-        day.slots[0].revision = MAX_ENERGY + 1 - 50;
-    });
-    add("allotted without measurement", allotted(), &|day| day.measurement = None);
-    list
 }
 
 fn untaken() -> Vec<Untaken> {
@@ -194,6 +158,21 @@ fn untaken() -> Vec<Untaken> {
         day.slots[0].consumption = [GREATEST; 5];
         day.slots[1].losses = [GREATEST; 5];
     });
+    add("a number twice", entering(), &|day| day.slots[1].number = 7);
+    add("a number past the last user", entering(), &|day| day.slots[63].number = 1);
+    add("losses past the last user", entering(), &|day| day.slots[2].losses[4] = 1);
+    add("downstream above emission", entering(), &|day| {
+        day.measurement = Some(Measurement { emission: 5, downstream: 6 });
+    });
+    add("consumption −1", allotted(), &|day| {
+        day.slots[0].consumption[2] = -1;
+        day.slots[0].balance[2] = 1;
+    });
+    add("whole amounts −1 together", allotted(), &|day| day.slots[0].revision = -51);
+    add("whole amounts 1,000,000,001 together", allotted(), &|day| {
+        day.slots[0].revision = MAX_ENERGY + 1 - 50;
+    });
+    add("allotted without measurement", allotted(), &|day| day.measurement = None);
     list
 }
 
@@ -312,7 +291,7 @@ mod tests {
 
     #[test]
     fn none_of_the_others_is_taken() {
-        for (reason, day) in [untaken(), untaken_in_vectors()].concat() {
+        for (reason, day) in untaken() {
             assert!(!day.taken(), "{reason}");
         }
     }

@@ -1,4 +1,4 @@
-//! The standard input of `replay`.
+//! The standard inputs of `replay` and `replay_loads`.
 
 use std::path::Path;
 
@@ -29,33 +29,39 @@ pub enum Operations {
     Basic,
 }
 
-/// Our own cases, then the vectors, each from a fresh point-day.
-pub fn stdin(operations: Operations, vectors: &Path) -> Result<Vec<u8>, String> {
+/// The stored input of `replay`: our lists of calls from a fresh point-day, inventories and day
+/// files, then the vectors' day files, `replay-basic` and `replay-final`.
+pub fn lists(operations: Operations, vectors: &Path) -> Result<Vec<u8>, String> {
     let all = operations == Operations::All;
     let mut own = Recorder::new(all);
     hand_lists::all(&mut own);
     random_lists(&mut own);
-    loaded_days::taken(&mut own);
-    if all {
-        loaded_days::some_untaken(&mut own);
-    } else {
-        loaded_days::all_untaken(&mut own);
-    }
     inventories(&mut own);
     day_files(&mut own);
-    if all {
-        for bytes in vector_files::day_files(vectors)? {
-            own.day_file(bytes);
-        }
+    if !all {
+        return input(own, &["replay-basic.in"], vectors);
     }
-    let mut bytes = own.bytes();
+    for bytes in vector_files::day_files(vectors)? {
+        own.day_file(bytes);
+    }
+    input(own, &["replay-basic.in", "replay-final.in"], vectors)
+}
 
-    let mut files = vec!["replay-basic.in"];
-    if all {
-        files.push("replay-all.in");
-    }
+/// The stored input of `replay_loads`: our point-days loaded as they are, then `replay-all`, which
+/// is for the most part such point-days.
+pub fn loads(operations: Operations, vectors: &Path) -> Result<Vec<u8>, String> {
+    let all = operations == Operations::All;
+    let mut own = Recorder::new(all);
+    loaded_days::all(&mut own);
+    let files: &[&str] = if all { &["replay-all.in"] } else { &[] };
+    input(own, files, vectors)
+}
+
+/// Our own cases, then the vectors, each from a fresh point-day.
+fn input(own: Recorder, files: &[&str], vectors: &Path) -> Result<Vec<u8>, String> {
+    let mut bytes = own.bytes();
     for file in files {
-        let mut fresh = Recorder::new(all);
+        let mut fresh = Recorder::new(false);
         fresh.fresh();
         bytes.extend(fresh.bytes());
         bytes.extend(vector_files::read(vectors, file)?);

@@ -1,4 +1,5 @@
-//! The same report in plain Rust: the file is tested, then read once; each call's conditions are tested where they can fail.
+//! The same report in plain Rust: the file is tested, then read once; each call's conditions are tested where they can fail. A user's
+//! balance over all kinds is its share, so that no share is split over the kinds.
 
 use std::cmp::Reverse;
 
@@ -16,7 +17,7 @@ struct Day {
     users: [u16; USERS],
     consumption: [[i64; KINDS]; USERS],
     losses: [[i64; KINDS]; USERS],
-    balance: [[i64; KINDS]; USERS],
+    shares: [i64; USERS],
     offtake: u64,
 }
 
@@ -26,14 +27,13 @@ pub fn day_report(file: &[u8], out: &mut [u8]) -> usize {
         return 0;
     }
     let mut text = Text { out, len: 0 };
-    match read(file) {
-        Err(number) => text.line(b"refused", &[number as i64]),
-        Ok((gas_day, day)) => day.print(gas_day, &mut text),
+    if let Err(number) = report(file, &mut text) {
+        text.line(b"refused", &[number as i64]);
     }
     text.len
 }
 
-fn read(file: &[u8]) -> Result<(u32, Day), u8> {
+fn report(file: &[u8], text: &mut Text) -> Result<(), u8> {
     if !is_well_formed(file) {
         return Err(13);
     }
@@ -51,14 +51,15 @@ fn read(file: &[u8]) -> Result<(u32, Day), u8> {
         users: [0; USERS],
         consumption: [[0; KINDS]; USERS],
         losses: [[0; KINDS]; USERS],
-        balance: [[0; KINDS]; USERS],
+        shares: [0; USERS],
         offtake: 0,
     };
     for (start, end) in pairs(file) {
         day.enter(&file[start..end])?;
     }
     day.allot()?;
-    Ok((gas_day, day))
+    day.print(gas_day, text);
+    Ok(())
 }
 
 fn is_well_formed(file: &[u8]) -> bool {
@@ -137,59 +138,47 @@ impl Day {
         if self.count == 0 {
             return Err(8);
         }
-        let mut cells = [[0; KINDS]; USERS];
         let mut weights = [0; USERS];
+        let weights = &mut weights[..self.count];
         for from in [1, 0] {
-            for slot in 0..self.count {
-                for kind in from..KINDS {
-                    cells[slot][kind] = self.consumption[slot][kind] + self.losses[slot][kind];
-                }
-                weights[slot] = cells[slot].iter().sum();
+            for (slot, weight) in weights.iter_mut().enumerate() {
+                let consumption: i64 = self.consumption[slot][from..].iter().sum();
+                *weight = consumption + self.losses[slot][from..].iter().sum::<i64>();
             }
             if weights.iter().any(|&weight| weight != 0) {
                 break;
             }
         }
-        let mut shares = [0; USERS];
-        let keys = &self.users[..self.count];
         split::<USERS>(
             self.net - self.offtake as i64,
-            &weights[..self.count],
-            keys,
-            &mut shares,
+            weights,
+            &self.users[..self.count],
+            &mut self.shares[..self.count],
         );
-        for slot in 0..self.count {
-            if weights[slot] == 0 {
-                self.balance[slot][0] = shares[slot];
-            } else {
-                split::<KINDS>(
-                    shares[slot],
-                    &cells[slot],
-                    &[1, 2, 3, 4, 5],
-                    &mut self.balance[slot],
-                );
-            }
-        }
         Ok(())
     }
 
     fn print(&self, gas_day: u32, text: &mut Text) {
-        let all = |cells: &[[i64; KINDS]]| cells.iter().flatten().sum();
-        let consumption = all(&self.consumption[..self.count]);
-        let losses = all(&self.losses[..self.count]);
-        let balance = all(&self.balance[..self.count]);
+        let users = &self.consumption[..self.count];
+        let (consumption, offtake) = (users.iter().flatten().sum(), self.offtake as i64);
         text.line(
             b"point",
-            &[gas_day as i64, self.net, consumption, losses, balance],
+            &[
+                gas_day as i64,
+                self.net,
+                consumption,
+                offtake - consumption,
+                self.net - offtake,
+            ],
         );
         for slot in 0..self.count {
             let consumption: i64 = self.consumption[slot].iter().sum();
             let losses: i64 = self.losses[slot].iter().sum();
-            let balance: i64 = self.balance[slot].iter().sum();
-            let whole = consumption + losses + balance;
+            let share = self.shares[slot];
+            let whole = consumption + losses + share;
             text.line(
                 b"user",
-                &[self.users[slot] as i64, consumption, losses, balance, whole],
+                &[self.users[slot] as i64, consumption, losses, share, whole],
             );
         }
     }

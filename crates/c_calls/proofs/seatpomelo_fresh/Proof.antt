@@ -4,7 +4,7 @@ use lib.IntN.{pos}
 use lib.ListN.{length}
 use borrow.Author.Tests.{eq-eqb, ne-eqb}
 use Rattle.plain_day.specs.Layout.{LENGTH, numbers-of}
-use Rattle.plain_calls.specs.Plain.{plain, plain-fresh}
+use Rattle.c_calls.specs.Plain.{plain, plain-fresh}
 use borrow.Author.Needs.{needs}
 use Rattle.c_calls.proofs.seatpomelo_fresh.Statement.{statement}
 use Rattle.c_calls.proofs.seatpomelo_fresh.Tie as tie

@@ -8,15 +8,15 @@ use mir.Val.{SFits}
 use mir.Facts.{toZ-ofZ}
 use borrow.Author.Tests.{not-true, not-false}
 use Rattle.inventory.specs.Inventory.{refused, written, answer-of}
-use Rattle.plain_day.specs.Layout.{is-laid-out}
+use Rattle.plain_day.specs.Layout.{is-readable}
 use Rattle.plain_day.proofs.Ranges.{laid-length, laid-users}
-use Rattle.plain_calls.proofs.Listed.{none-listed, as-listed}
+use Rattle.c_calls.proofs.Listed.{none-listed, as-listed}
 use borrow.Author.Needs.{needs}
 use Rattle.c_calls.proofs.seatpomelo_inventory.Statement.{statement}
 use Rattle.c_calls.proofs.seatpomelo_inventory.Tie as tie
 
-is-laid-out-requires : tie.Need-is-laid-out-requires
-is-laid-out-requires c κs = search needs
+is-readable-requires : tie.Need-is-readable-requires
+is-readable-requires c κs = search needs
 
 same-length : tie.Need-same-length
 same-length c = search needs
@@ -24,12 +24,12 @@ same-length c = search needs
 returns : tie.Need-returns
 returns c =
     let s = c .before .before .before in
-    none-listed (s .args .day .now) (s .args .out .now) (sym (c .before .is-laid-out .ensures) ∙ not-true _ (c .if1 .taken))
+    none-listed (s .args .day .now) (s .args .out .now) (sym (c .before .is-readable .ensures) ∙ not-true _ (c .if1 .taken))
 
 day-in-requires : tie.Need-day-in-requires
 day-in-requires c κs =
     let xs = c .before .before .before .before .args .day .now in
-    let l : is-laid-out xs ≡ true = sym (c .before .before .is-laid-out .ensures) ∙ not-false _ (c .before .if1 .left) in
+    let l : is-readable xs ≡ true = sym (c .before .before .is-readable .ensures) ∙ not-false _ (c .before .if1 .left) in
     (laid-length xs l, laid-users xs l)
 
 inventory-requires : tie.Need-inventory-requires
@@ -45,7 +45,7 @@ to-signed-requires : tie.Need-to-signed-requires
 to-signed-requires c κs = search needs
 
 write-value-requires : tie.Need-write-value-requires
-write-value-requires c κs = omega (arith, laid-length (c .before .before .before .before .before .before .before .before .before .before .before .before .before .args .day .now) (sym (c .before .before .before .before .before .before .before .before .before .before .before .is-laid-out .ensures) ∙ not-false _ (c .before .before .before .before .before .before .before .before .before .before .if1 .left)))
+write-value-requires c κs = omega (arith, laid-length (c .before .before .before .before .before .before .before .before .before .before .before .before .before .args .day .now) (sym (c .before .before .before .before .before .before .before .before .before .before .before .is-readable .ensures) ∙ not-false _ (c .before .before .before .before .before .before .before .before .before .before .if1 .left)))
 
 same-length-2 : tie.Need-same-length-2
 same-length-2 c = search needs
@@ -58,7 +58,7 @@ returns-2 c =
     let s = c .before .before .before .before .before .before .before .before .before .before .before in
     let m = c .before .before .before .before .inventory in
     let a = c .before .answer .given in
-    as-listed (s .args .day .now) (s .args .out .now) (sym (c .before .before .before .before .before .before .before .before .before .is-laid-out .ensures) ∙ not-false _ (c .before .before .before .before .before .before .before .before .if1 .left)) (c .before .before .before .before .before .before .day-in .ensures) (refused (a .0 .0)) (ap answer-of (sym (a .1)) ∙ m .ensures .0) (m .last .1 .0) (m .ensures .1) refl refl
+    as-listed (s .args .day .now) (s .args .out .now) (sym (c .before .before .before .before .before .before .before .before .before .is-readable .ensures) ∙ not-false _ (c .before .before .before .before .before .before .before .before .if1 .left)) (c .before .before .before .before .before .before .day-in .ensures) (refused (a .0 .0)) (ap answer-of (sym (a .1)) ∙ m .ensures .0) (m .last .1 .0) (m .ensures .1) refl refl
 
 same-length-4 : tie.Need-same-length-4
 same-length-4 c = search needs
@@ -74,14 +74,14 @@ returns-3 c =
     let a = c .before .before .before .before .before .answer2 .given in
     let v = c .before .before .to-signed in
     let h : SFits w64 (v .result) = search needs in
-    as-listed xs (s .args .out .now) (sym (c .before .before .before .before .before .before .before .before .before .before .before .before .before .is-laid-out .ensures) ∙ not-false _ (c .before .before .before .before .before .before .before .before .before .before .before .before .if1 .left)) (c .before .before .before .before .before .before .before .before .before .before .day-in .ensures) (written (a .0 .0)) (ap answer-of (sym (a .1)) ∙ m .ensures .0) (m .last .1 .0) (m .ensures .1) (c .before .write-value .ensures .0)
+    as-listed xs (s .args .out .now) (sym (c .before .before .before .before .before .before .before .before .before .before .before .before .before .is-readable .ensures) ∙ not-false _ (c .before .before .before .before .before .before .before .before .before .before .before .before .if1 .left)) (c .before .before .before .before .before .before .before .before .before .before .day-in .ensures) (written (a .0 .0)) (ap answer-of (sym (a .1)) ∙ m .ensures .0) (m .last .1 .0) (m .ensures .1) (c .before .write-value .ensures .0)
     ((rw (toZ-ofZ h) at (c .before .write-value .ensures .1)) ∙ ap (set xs 0) (v .ensures))
 
 pub seatpomelo-inventory-spec : {M : Type 1} → statement M
 seatpomelo-inventory-spec =
     tie.close
     (tie.spec
-    is-laid-out-requires
+    is-readable-requires
     same-length
     returns
     day-in-requires

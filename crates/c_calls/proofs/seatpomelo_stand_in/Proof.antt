@@ -9,18 +9,19 @@ use Rattle.point_day.specs.Limits.{TOLERANCE}
 use Rattle.point_day.specs.Calls.{stand-in}
 use Rattle.point_day.specs.Answers.{answer-of}
 use Rattle.point_day.specs.Struct.{rows-of, called}
-use Rattle.plain_day.specs.Layout.{is-laid-out, numbers-of}
+use Rattle.plain_day.specs.Layout.{is-readable, numbers-of}
 use Rattle.plain_day.proofs.Ranges.{laid-length, laid-users}
-use Rattle.plain_calls.specs.Plain.{plain, rows-in}
-use Rattle.plain_calls.proofs.Outcomes.{not-laid-out, laid-out}
+use Rattle.stand_in.specs.Rows.{rows-in}
+use Rattle.c_calls.specs.Plain.{plain}
+use Rattle.c_calls.proofs.Outcomes.{not-readable, readable}
 use Rattle.c_calls.specs.declared.Status.{Status}
 use Rattle.c_calls.proofs.Statuses.{refuses, writes}
 use borrow.Author.Needs.{needs}
 use Rattle.c_calls.proofs.seatpomelo_stand_in.Statement.{statement}
 use Rattle.c_calls.proofs.seatpomelo_stand_in.Tie as tie
 
-is-laid-out-requires : tie.Need-is-laid-out-requires
-is-laid-out-requires c κs = search needs
+is-readable-requires : tie.Need-is-readable-requires
+is-readable-requires c κs = search needs
 
 same-length : tie.Need-same-length
 same-length c = search needs
@@ -28,20 +29,17 @@ same-length c = search needs
 returns : tie.Need-returns
 returns c =
     let s = c .before .before .before .before .before in
-    not-laid-out (called (stand-in TOLERANCE (rows-of (rows-in (s .args .counts .now) (s .args .users .now) (s .args .amounts .now))))) (s .args .day .now) (sym (c .before .is-laid-out .ensures) ∙ not-true _ (c .if1 .taken))
-
-rows-in-requires : tie.Need-rows-in-requires
-rows-in-requires c κs = search needs
+    not-readable (called (stand-in TOLERANCE (rows-of (rows-in (s .args .counts .now) (s .args .users .now) (s .args .amounts .now))))) (s .args .day .now) (sym (c .before .is-readable .ensures) ∙ not-true _ (c .if1 .taken))
 
 day-in-requires : tie.Need-day-in-requires
 day-in-requires c κs =
-    let e = c .before .before in
+    let e = c .before in
     let s = e .before .before .before .before .before in
-    let l : is-laid-out (s .args .day .now) ≡ true = sym (e .before .is-laid-out .ensures) ∙ not-false _ (e .if1 .left) in
+    let l : is-readable (s .args .day .now) ≡ true = sym (e .before .is-readable .ensures) ∙ not-false _ (e .if1 .left) in
     (laid-length (s .args .day .now) l, laid-users (s .args .day .now) l)
 
-stand-in-requires : tie.Need-stand-in-requires
-stand-in-requires c κs = search needs
+stand-in-lists-requires : tie.Need-stand-in-lists-requires
+stand-in-lists-requires c κs = search needs
 
 status-of-requires : tie.Need-status-of-requires
 status-of-requires c κs = search needs
@@ -51,46 +49,45 @@ same-length-2 c = search needs
 
 returns-2 : tie.Need-returns-2
 returns-2 c =
-    let e = c .before .before .before .before .before .before in
+    let e = c .before .before .before .before .before in
     let s = e .before .before .before .before .before in
-    let m = c .before .before .stand-in in
+    let m = c .before .before .stand-in-lists in
     let q = c .before .status-of .ensures in
     ap (λ (x : Status). plain (x .number) (s .args .day .now)) q
     ∙ refuses (answer-of (m .result .answer)) (sym (ap (λ (x : Status). x .refused) q) ∙ c .if2 .taken) (m .result .day) (s .args .day .now)
-    ∙ laid-out (called (stand-in TOLERANCE (rows-of (rows-in (s .args .counts .now) (s .args .users .now) (s .args .amounts .now))))) (s .args .day .now) (sym (e .before .is-laid-out .ensures) ∙ not-false _ (e .if1 .left)) (c .before .before .before .day-in .ensures)
-    (answer-of (m .result .answer)) (m .result .day) (m .ensures ∙ ap (λ r. called (stand-in TOLERANCE (rows-of r)) (c .before .before .before .day-in .result)) (c .before .before .before .before .before .rows-in .ensures))
+    ∙ readable (called (stand-in TOLERANCE (rows-of (rows-in (s .args .counts .now) (s .args .users .now) (s .args .amounts .now))))) (s .args .day .now) (sym (e .before .is-readable .ensures) ∙ not-false _ (e .if1 .left)) (c .before .before .before .day-in .ensures)
+    (answer-of (m .result .answer)) (m .result .day) (m .ensures)
 
 write-requires : tie.Need-write-requires
 write-requires c κs =
-    let e = c .before .before .before .before .before .before .before .before .before in
+    let e = c .before .before .before .before .before .before .before .before in
     let s = e .before .before .before .before .before in
-    laid-length (s .args .day .now) (sym (e .before .is-laid-out .ensures) ∙ not-false _ (e .if1 .left))
+    laid-length (s .args .day .now) (sym (e .before .is-readable .ensures) ∙ not-false _ (e .if1 .left))
 
 same-length-3 : tie.Need-same-length-3
 same-length-3 c = search needs
 
 returns-3 : tie.Need-returns-3
 returns-3 c =
-    let e = c .before .before .before .before .before .before .before .before .before .before .before in
+    let e = c .before .before .before .before .before .before .before .before .before .before in
     let s = e .before .before .before .before .before in
-    let m = c .before .before .before .before .before .before .before .stand-in in
+    let m = c .before .before .before .before .before .before .before .stand-in-lists in
     let h : SFits w64 (c .before .before .before .before .before .before .status-of .result .value) = search needs in
     let q = c .before .before .before .before .before .before .status-of .ensures in
     ap₂ plain (c .before .write .ensures .0) ((rw (toZ-ofZ h) at (c .before .write .ensures .1)) ∙ ap (λ (x : Status). numbers-of (x .value) (m .result .day)) q)
     ∙ writes (answer-of (m .result .answer)) (sym (ap (λ (x : Status). x .refused) q) ∙ c .before .before .before .before .before .if2 .left) (m .result .day) (s .args .day .now)
-    ∙ laid-out (called (stand-in TOLERANCE (rows-of (rows-in (s .args .counts .now) (s .args .users .now) (s .args .amounts .now))))) (s .args .day .now) (sym (e .before .is-laid-out .ensures) ∙ not-false _ (e .if1 .left)) (c .before .before .before .before .before .before .before .before .day-in .ensures)
-    (answer-of (m .result .answer)) (m .result .day) (m .ensures ∙ ap (λ r. called (stand-in TOLERANCE (rows-of r)) (c .before .before .before .before .before .before .before .before .day-in .result)) (c .before .before .before .before .before .before .before .before .before .before .rows-in .ensures))
+    ∙ readable (called (stand-in TOLERANCE (rows-of (rows-in (s .args .counts .now) (s .args .users .now) (s .args .amounts .now))))) (s .args .day .now) (sym (e .before .is-readable .ensures) ∙ not-false _ (e .if1 .left)) (c .before .before .before .before .before .before .before .before .day-in .ensures)
+    (answer-of (m .result .answer)) (m .result .day) (m .ensures)
 
 pub seatpomelo-stand-in-spec : {M : Type 1} → statement M
 seatpomelo-stand-in-spec =
     tie.close
     (tie.spec
-    is-laid-out-requires
+    is-readable-requires
     same-length
     returns
-    rows-in-requires
     day-in-requires
-    stand-in-requires
+    stand-in-lists-requires
     status-of-requires
     same-length-2
     returns-2

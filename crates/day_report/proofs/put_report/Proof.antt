@@ -1,16 +1,23 @@
 -- `day_report::put_report` meets its contract. Assumes nothing.
-use mathlib.Core.Path.{sym, _∙_}
+use mathlib.Core.Path.{sym, ap, _∙_}
 use borrow.Author.Tests.{not-true, not-false}
-use Rattle.file_form.proofs.WellFormed.{header-inside}
-use Rattle.file_allotment.proofs.Allotting.{reported}
+use Rattle.day_file.specs.declared.Header.{Header}
+use Rattle.day_file.proofs.WellFormed.{is-malformed, is-well-formed, has-header}
+use Rattle.day_report.proofs.allotment.Allotting.{reported}
 use Rattle.day_report.proofs.Running.{malformed, late-day, unmeasured, measured}
 use borrow.Author.Needs.{needs}
 use native.Mathlib.Omega.{arith}
 use Rattle.day_report.proofs.put_report.Statement.{statement}
 use Rattle.day_report.proofs.put_report.Tie as tie
 
-is-well-formed-requires : tie.Need-is-well-formed-requires
-is-well-formed-requires c κs = search needs
+decode-requires : tie.Need-decode-requires
+decode-requires c κs = search needs
+
+enum-known-decoded : tie.Need-enum-known-decoded
+enum-known-decoded c = search needs
+
+enum-told : tie.Need-enum-told
+enum-told c = search needs
 
 put-refused-requires : tie.Need-put-refused-requires
 put-refused-requires c κs = search needs
@@ -19,13 +26,16 @@ same-length : tie.Need-same-length
 same-length c = search needs
 
 returns : tie.Need-returns
-returns c = reported (c .before .before .before .before .before .before .before .before .args .out .now) (malformed (c .before .before .before .before .before .before .before .before .args .file .now) (sym (c .before .before .before .before .before .is-well-formed .ensures) ∙ not-true (c .before .before .before .before .before .is-well-formed .result) (c .before .before .before .before .if1 .taken))) (c .before .before .put-refused .ensures .0) (c .before .before .put-refused .ensures .1)
+returns c =
+    let p = c .before .before in
+    let t = p .before .before in
+    let d = t .before .before in
+    let s = d .before .before .before in
+    let f = s .args .file .now in
+    reported (s .args .out .now) (malformed f (is-malformed f (d .decode .ensures) (t .enum-told .given .1))) (p .put-refused .ensures .0) (p .put-refused .ensures .1)
 
-read-u32-requires : tie.Need-read-u32-requires
-read-u32-requires c κs = omega (arith, header-inside (c .before .before .before .before .args .file .now) (sym (c .before .is-well-formed .ensures) ∙ not-false (c .before .is-well-formed .result) (c .if1 .left)))
-
-cast-if2 : tie.Need-cast-if2
-cast-if2 c = search needs
+cast-if1 : tie.Need-cast-if1
+cast-if1 c = search needs
 
 put-refused-requires-2 : tie.Need-put-refused-requires-2
 put-refused-requires-2 c κs = search needs
@@ -34,13 +44,17 @@ same-length-2 : tie.Need-same-length-2
 same-length-2 c = search needs
 
 returns-2 : tie.Need-returns-2
-returns-2 c = reported (c .before .before .before .before .before .before .before .before .before .before .args .out .now) (late-day (c .before .before .before .before .before .before .before .before .before .before .args .file .now) (sym (c .before .before .before .before .before .before .before .is-well-formed .ensures) ∙ not-false (c .before .before .before .before .before .before .before .is-well-formed .result) (c .before .before .before .before .before .before .if1 .left)) (omega (arith, c .before .before .before .before .before .read-u32 .ensures .0))) (c .before .before .put-refused2 .ensures .0) (c .before .before .put-refused2 .ensures .1)
-
-read-u32-requires-2 : tie.Need-read-u32-requires-2
-read-u32-requires-2 c κs = omega (arith, header-inside (c .before .before .before .before .before .before .args .file .now) (sym (c .before .before .before .is-well-formed .ensures) ∙ not-false (c .before .before .before .is-well-formed .result) (c .before .before .if1 .left)))
-
-read-u32-requires-3 : tie.Need-read-u32-requires-3
-read-u32-requires-3 c κs = omega (arith, header-inside (c .before .before .before .before .before .before .before .args .file .now) (sym (c .before .before .before .before .is-well-formed .ensures) ∙ not-false (c .before .before .before .before .is-well-formed .result) (c .before .before .before .if1 .left)))
+returns-2 c =
+    let p = c .before .before in
+    let t = p .before .before in
+    let g = t .before .before .before in
+    let d = g .before .before in
+    let s = d .before .before .before in
+    let f = s .args .file .now in
+    let right = is-well-formed f (d .decode .ensures) (g .decoded .given .1) in
+    let h = has-header f (d .decode .ensures) (g .decoded .given .1) in
+    let day = ap (λ (x : Header). x .day) h in
+    reported (s .args .out .now) (late-day f right (omega (arith, day, t .if1 .taken))) (p .put-refused2 .ensures .0) (p .put-refused2 .ensures .1)
 
 emission-right-requires : tie.Need-emission-right-requires
 emission-right-requires c κs = search needs
@@ -52,32 +66,74 @@ same-length-3 : tie.Need-same-length-3
 same-length-3 c = search needs
 
 returns-3 : tie.Need-returns-3
-returns-3 c = reported (c .before .before .before .before .before .before .before .before .before .before .before .before .before .before .args .out .now) (unmeasured (c .before .before .before .before .before .before .before .before .before .before .before .before .before .before .args .file .now) (sym (c .before .before .before .before .before .before .before .before .before .before .before .is-well-formed .ensures) ∙ not-false (c .before .before .before .before .before .before .before .before .before .before .before .is-well-formed .result) (c .before .before .before .before .before .before .before .before .before .before .if1 .left)) (c .before .before .before .before .before .before .before .before .before .read-u32 .ensures .0) (c .before .before .before .before .before .before .before .read-u322 .ensures .0) (c .before .before .before .before .before .before .read-u323 .ensures .0) (omega arith) (sym (c .before .before .before .before .before .emission-right .ensures) ∙ not-true (c .before .before .before .before .before .emission-right .result) (c .before .before .before .before .if3 .taken))) (c .before .before .put-refused3 .ensures .0) (c .before .before .put-refused3 .ensures .1)
+returns-3 c =
+    let p = c .before .before in
+    let t = p .before .before in
+    let m = t .before in
+    let e = m .before in
+    let g = e .before .before .before in
+    let d = g .before .before in
+    let s = d .before .before .before in
+    let f = s .args .file .now in
+    let right = is-well-formed f (d .decode .ensures) (g .decoded .given .1) in
+    let h = has-header f (d .decode .ensures) (g .decoded .given .1) in
+    let day = ap (λ (x : Header). x .day) h in
+    let emission = ap (λ (x : Header). x .emission) h in
+    let downstream = ap (λ (x : Header). x .downstream) h in
+    let out = sym (m .emission-right .ensures) ∙ not-true (m .emission-right .result) (t .if2 .taken) in
+    reported (s .args .out .now) (unmeasured f right day emission downstream (omega (arith, e .if1 .left)) out) (p .put-refused3 .ensures .0) (p .put-refused3 .ensures .1)
 
 enter-requires : tie.Need-enter-requires
-enter-requires c κs = ((sym (c .before .before .before .before .before .before .before .before .is-well-formed .ensures) ∙ not-false (c .before .before .before .before .before .before .before .before .is-well-formed .result) (c .before .before .before .before .before .before .before .if1 .left)), c .before .before .before .before .before .before .before .before .before .before .before .pre, omega arith, sym (c .before .before .emission-right .ensures) ∙ not-false (c .before .before .emission-right .result) (c .before .if3 .left))
+enter-requires c κs =
+    let t = c .before in
+    let m = t .before in
+    let e = m .before in
+    let g = e .before .before .before in
+    let d = g .before .before in
+    let s = d .before .before .before in
+    let f = s .args .file .now in
+    let right = is-well-formed f (d .decode .ensures) (g .decoded .given .1) in
+    let h = has-header f (d .decode .ensures) (g .decoded .given .1) in
+    let day = ap (λ (x : Header). x .day) h in
+    let emission = ap (λ (x : Header). x .emission) h in
+    let downstream = ap (λ (x : Header). x .downstream) h in
+    (right, h, s .pre, omega (arith, e .if1 .left), sym (m .emission-right .ensures) ∙ not-false (m .emission-right .result) (t .if2 .left))
 
 same-length-4 : tie.Need-same-length-4
 same-length-4 c = search needs
 
 returns-4 : tie.Need-returns-4
-returns-4 c = reported (c .before .before .before .before .before .before .before .before .before .before .before .before .before .before .args .out .now) (measured (c .before .before .before .before .before .before .before .before .before .before .before .before .before .before .args .file .now) (sym (c .before .before .before .before .before .before .before .before .before .before .before .is-well-formed .ensures) ∙ not-false (c .before .before .before .before .before .before .before .before .before .before .before .is-well-formed .result) (c .before .before .before .before .before .before .before .before .before .before .if1 .left)) (c .before .before .before .before .before .before .before .before .before .read-u32 .ensures .0) (c .before .before .before .before .before .before .before .read-u322 .ensures .0) (c .before .before .before .before .before .before .read-u323 .ensures .0) (omega arith) (sym (c .before .before .before .before .before .emission-right .ensures) ∙ not-false (c .before .before .before .before .before .emission-right .result) (c .before .before .before .before .if3 .left))) (c .before .before .enter .ensures .0) (c .before .before .enter .ensures .1)
+returns-4 c =
+    let p = c .before .before in
+    let t = p .before .before in
+    let m = t .before in
+    let e = m .before in
+    let g = e .before .before .before in
+    let d = g .before .before in
+    let s = d .before .before .before in
+    let f = s .args .file .now in
+    let right = is-well-formed f (d .decode .ensures) (g .decoded .given .1) in
+    let h = has-header f (d .decode .ensures) (g .decoded .given .1) in
+    let day = ap (λ (x : Header). x .day) h in
+    let emission = ap (λ (x : Header). x .emission) h in
+    let downstream = ap (λ (x : Header). x .downstream) h in
+    let in-range = sym (m .emission-right .ensures) ∙ not-false (m .emission-right .result) (t .if2 .left) in
+    reported (s .args .out .now) (measured f right day emission downstream (omega (arith, e .if1 .left)) in-range) (p .enter .ensures .0) (p .enter .ensures .1)
 
 pub put-report-spec : {M : Type 1} → statement M
 put-report-spec =
     tie.close
     (tie.spec
-    is-well-formed-requires
+    decode-requires
+    enum-known-decoded
+    enum-told
     put-refused-requires
     same-length
     returns
-    read-u32-requires
-    cast-if2
+    cast-if1
     put-refused-requires-2
     same-length-2
     returns-2
-    read-u32-requires-2
-    read-u32-requires-3
     emission-right-requires
     put-refused-requires-3
     same-length-3

@@ -1,95 +1,62 @@
--- `inventory::inventory` meets its contract: each way out is one of the outcomes. Assumes nothing.
-use mathlib.Core.Path.{sym, _∙_}
-use Prim.Native.Nat.{_*_}
-use borrow.Author.Tests.{not-true, not-false}
-use Rattle.point_day.specs.Limits.{KINDS}
-use Rattle.inventory_cells.proofs.Rows.{count-le}
-use Rattle.inventory.proofs.Outcomes.{not-taken, not-allotted, cells-few, short, all-written}
+-- `inventory::inventory` meets its contract: what its tests find, it does. Assumes nothing.
+use mathlib.Core.Path.{refl}
 use native.Mathlib.Omega.{arith}
 use borrow.Author.Needs.{needs}
+use lib.ListN.{length}
+use Rattle.inventory.specs.Inventory.{refused}
+use Rattle.inventory.specs.Listed.{Lists}
+use Rattle.inventory.proofs.Outcomes.{ends, all-written}
 use Rattle.inventory.proofs.inventory.Statement.{statement}
 use Rattle.inventory.proofs.inventory.Tie as tie
 
-is-taken-requires : tie.Need-is-taken-requires
-is-taken-requires c κs = search needs
+inventory-test-requires : tie.Need-inventory-test-requires
+inventory-test-requires c κs = search needs
 
-returns : tie.Need-returns
-returns c =
-    let s = c .before .before in
-    let d = s .args .t1 in
-    let out = s .args .out .now in
-    not-taken d out (sym (c .before .is-taken .ensures .0) ∙ not-true _ (c .if1 .taken))
+enum-known-test : tie.Need-enum-known-test
+enum-known-test c = search needs
 
-returns-2 : tie.Need-returns-2
-returns-2 c =
-    let s = c .before .before .before in
-    let d = s .args .t1 in
-    let out = s .args .out .now in
-    let t = sym (c .before .before .is-taken .ensures .0) ∙ not-false _ (c .before .if1 .left) in
-    not-allotted d out t (not-true _ (c .if2 .taken))
+enum-known-test-2 : tie.Need-enum-known-test-2
+enum-known-test-2 c = search needs
 
-mul-n : tie.Need-mul-n
-mul-n c =
-    let s = c .before .before .before in
-    let d = s .args .t1 in
-    let out = s .args .out .now in
-    let t = sym (c .before .before .is-taken .ensures .0) ∙ not-false _ (c .before .if1 .left) in
-    omega (arith, cells-few d out t)
-
-count-rows-requires : tie.Need-count-rows-requires
-count-rows-requires c κs =
-    let s = c .before .before .before .before .before .before .before in
-    let d = s .args .t1 in
-    let out = s .args .out .now in
-    let t = sym (c .before .before .before .before .before .before .is-taken .ensures .0) ∙ not-false _ (c .before .before .before .before .before .if1 .left) in
-    omega (arith, cells-few d out t)
-
-mul-if3 : tie.Need-mul-if3
-mul-if3 c =
-    let s = c .before .before .before .before .before .before .before .before in
-    let d = s .args .t1 in
-    let out = s .args .out .now in
-    let t = sym (c .before .before .before .before .before .before .before .is-taken .ensures .0) ∙ not-false _ (c .before .before .before .before .before .before .if1 .left) in
-    omega (arith, c .count-rows .ensures, count-le (d .consumption) (d .losses) (d .balance) (KINDS * d .count), cells-few d out t)
-
-returns-3 : tie.Need-returns-3
-returns-3 c =
-    let s = c .before .before .before .before .before .before .before .before .before in
-    let d = s .args .t1 in
-    let out = s .args .out .now in
-    let t = sym (c .before .before .before .before .before .before .before .before .is-taken .ensures .0) ∙ not-false _ (c .before .before .before .before .before .before .before .if1 .left) in
-    short d out t (not-false _ (c .before .before .before .before .before .before .if2 .left)) (omega (arith, c .if3 .taken, c .before .count-rows .ensures))
+mul-write-rows : tie.Need-mul-write-rows
+mul-write-rows c =
+    let d = c .before .before .before .before .before .before .before .before .before .before .before .before .before .before .before .before .before .before .before .before .before .before .before .before .args .t1 in
+    let t = c .before .before .before .before .before .before .before .before .before .before .test2 .given in
+    let L : Lists d (length (c .before .before .before .before .before .before .before .before .before .before .before .before .before .before .before .before .before .before .before .before .before .before .before .before .args .out .now)) (t .0 .0) = rw (t .1) at (c .before .before .before .before .before .before .before .before .before .before .before .before .inventory-test .ensures (d .stage)) in
+    omega (arith, L .few)
 
 write-rows-requires : tie.Need-write-rows-requires
 write-rows-requires c κs =
-    let s = c .before .before .before .before .before .before .before .before .before .before .before .before .before .before .before in
-    let d = s .args .t1 in
-    let out = s .args .out .now in
-    let t = sym (c .before .before .before .before .before .before .before .before .before .before .before .before .before .before .is-taken .ensures .0) ∙ not-false _ (c .before .before .before .before .before .before .before .before .before .before .before .before .before .if1 .left) in
-    (cells-few d out t, omega (arith, c .before .before .before .before .before .before .if3 .left, c .before .before .before .before .before .before .before .count-rows .ensures))
+    let d = c .before .before .before .before .before .before .before .before .before .before .before .before .before .before .before .before .before .before .before .before .before .before .before .before .before .args .t1 in
+    let t = c .before .before .before .before .before .before .before .before .before .before .before .test2 .given in
+    let L : Lists d (length (c .before .before .before .before .before .before .before .before .before .before .before .before .before .before .before .before .before .before .before .before .before .before .before .before .before .args .out .now)) (t .0 .0) = rw (t .1) at (c .before .before .before .before .before .before .before .before .before .before .before .before .before .inventory-test .ensures (d .stage)) in
+    (L .few, search needs, search needs, search needs, search needs, L .fits)
+
+returns : tie.Need-returns
+returns c =
+    let a = c .before .before .before .before .before .before .before .before .before .before .before .before .before .before .before .args in
+    let t = c .before .test .given in
+    ends (a .t1) (a .out .now) (a .out .now) (refused (t .0 .0)) ((rw (t .1) at (c .before .before .before .inventory-test .ensures (a .t1 .stage))) (a .out .now) refl) refl
 
 same-length : tie.Need-same-length
 same-length c = search needs
 
-returns-4 : tie.Need-returns-4
-returns-4 c =
-    let s = c .before .before .before .before .before .before .before .before .before .before .before .before .before .before .before .before .before in
-    let d = s .args .t1 in
-    let out = s .args .out .now in
-    let t = sym (c .before .before .before .before .before .before .before .before .before .before .before .before .before .before .before .before .is-taken .ensures .0) ∙ not-false _ (c .before .before .before .before .before .before .before .before .before .before .before .before .before .before .before .if1 .left) in
-    all-written d out t (not-false _ (c .before .before .before .before .before .before .before .before .before .before .before .before .before .before .if2 .left)) (omega (arith, c .before .before .before .before .before .before .before .before .if3 .left, c .before .before .before .before .before .before .before .before .before .count-rows .ensures)) (c .before .write-rows .ensures) (c .before .before .before .before .before .before .before .before .before .count-rows .ensures)
+returns-2 : tie.Need-returns-2
+returns-2 c =
+    let a = c .before .before .before .before .before .before .before .before .before .before .before .before .before .before .before .before .before .before .before .before .before .before .before .before .before .before .before .args in
+    let t = c .before .before .before .before .before .before .before .before .before .before .before .before .before .test2 .given in
+    let L : Lists (a .t1) (length (a .out .now)) (t .0 .0) = rw (t .1) at (c .before .before .before .before .before .before .before .before .before .before .before .before .before .before .before .inventory-test .ensures (a .t1 .stage)) in
+    all-written (a .t1) (a .out .now) _ (length (a .out .now)) (t .0 .0) L refl (c .before .write-rows .ensures)
 
 pub inventory-spec : {M : Type 1} → statement M
 inventory-spec =
     tie.close
     (tie.spec
-    is-taken-requires
-    returns
-    returns-2
-    mul-n
-    count-rows-requires
-    mul-if3
-    returns-3
+    inventory-test-requires
+    enum-known-test
+    enum-known-test-2
+    mul-write-rows
     write-rows-requires
+    returns
     same-length
-    returns-4)
+    returns-2)

@@ -53,14 +53,14 @@ slice-write-rems c = omega arith
 add-given : tie.Need-add-given Inv-loop μ-loop
 add-given c =
     let s = c .before .before .before in
-    let f = floor (s .args .amount) (s .args .whole) (at (s .args .ws .now)) in
+    let f = floor (s .args .amount) (s .args .weight-sum) (at (s .args .ws .now)) in
     let i = c .before .before .loop .i in
     let n = length (s .args .ws .now) in
     omega (
       arith,
       sum-more f i,
       sum-mono f (i + 1) n (omega arith),
-      floors-le (s .args .amount) (s .args .whole) (at (s .args .ws .now)) n (s .pre .0 .1) (sym (total-sum (s .args .ws .now)) ∙ sym (s .pre .0 .2)),
+      floors-le (s .args .amount) (s .args .weight-sum) (at (s .args .ws .now)) n (s .pre .0 .1) (sym (total-sum (s .args .ws .now)) ∙ sym (s .pre .0 .2)),
     )
 
 add-i : tie.Need-add-i Inv-loop μ-loop
@@ -72,7 +72,7 @@ loop-less c = search needs
 loop-again : tie.Need-loop-again Inv-loop μ-loop
 loop-again c =
     let s = c .before .before .before in
-    let f = floor (s .args .amount) (s .args .whole) (at (s .args .ws .now)) in
+    let f = floor (s .args .amount) (s .args .weight-sum) (at (s .args .ws .now)) in
     let i = c .before .before .loop .i in (
       omega arith,
       omega (arith, sum-more f i),

@@ -6,7 +6,7 @@ use native.Mathlib.Omega.{arith}
 use lib.IntN.{natAbs}
 use lib.ListN.{length, drop}
 use Rattle.columns.proofs.Shared.{fitted}
-use Rattle.spread.proofs.Periods.{weight-room, reading-fits, total-asks, split-asks, parts-are}
+use Rattle.spread.proofs.Periods.{weight-summable, reading-fits, total-asks, split-asks, parts-are}
 use Rattle.spread.proofs.Ranges.{in-range-facts}
 use borrow.Author.Needs.{needs}
 use Rattle.spread.proofs.prorate_days.Statement.{statement}
@@ -19,7 +19,7 @@ sizes-are s h = fitted (length (s .args .weights .now)) (map natAbs (s .args .we
 sizes-of-requires : tie.Need-sizes-of-requires
 sizes-of-requires c κs =
     let s = c .before .before .before in
-    (omega (arith, s .pre .1), weight-room (s .args .weights .now) (in-range-facts (s .args .reading) (s .args .weights .now) (s .pre .0) .weights))
+    (omega (arith, s .pre .1), weight-summable (s .args .weights .now) (in-range-facts (s .args .reading) (s .args .weights .now) (s .pre .0) .weights))
 
 write-days-requires : tie.Need-write-days-requires
 write-days-requires c κs = search needs

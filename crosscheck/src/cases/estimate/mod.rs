@@ -1,4 +1,4 @@
-//! The standard input of `estimate`.
+//! The standard inputs of `estimate` and `estimate_vectors`.
 
 mod dates;
 mod readings;
@@ -34,8 +34,8 @@ pub enum Operations {
     Supply,
 }
 
-/// Our own cases, then the vectors.
-pub fn stdin(operations: Operations, vectors: &Path) -> Result<Vec<u8>, String> {
+/// The stored input of `estimate`: our own cases.
+pub fn own(operations: Operations) -> Vec<u8> {
     let mut cases: Vec<Operation> = Vec::new();
     dates::all(&mut cases);
     temperatures::all(&mut cases);
@@ -47,13 +47,22 @@ pub fn stdin(operations: Operations, vectors: &Path) -> Result<Vec<u8>, String> 
     }
     let mut out = Writer::new();
     cases.iter().for_each(|case| case.write(&mut out));
+    ended(out)
+}
 
+/// The stored input of `estimate_vectors`.
+pub fn vectors(operations: Operations, vectors: &Path) -> Result<Vec<u8>, String> {
+    let mut out = Writer::new();
     out.raw(&vector_files::read(vectors, "estimate-supply.in")?);
     if operations == Operations::All {
         out.raw(&vector_files::read(vectors, "estimate-all.in")?);
     }
+    Ok(ended(out))
+}
+
+fn ended(mut out: Writer) -> Vec<u8> {
     out.u8(UNKNOWN);
     let length = out.bytes.len();
     assert!(length <= MAX_INPUT, "{length} bytes are too many for estimate");
-    Ok(out.bytes)
+    out.bytes
 }

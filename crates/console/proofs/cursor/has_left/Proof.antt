@@ -1,6 +1,6 @@
 -- `console::cursor::has_left` meets its contract. Assumes nothing.
 use native.Mathlib.Omega.{arith}
-use Rattle.console.proofs.cursor.Taking.{none-left, past-end, so-many-left}
+use Rattle.console.proofs.cursor.Input.{none-left, past-end, so-many-left}
 use borrow.Author.Needs.{needs}
 use Rattle.console.proofs.cursor.has_left.Statement.{statement}
 use Rattle.console.proofs.cursor.has_left.Tie as tie

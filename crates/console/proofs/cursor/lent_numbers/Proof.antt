@@ -11,7 +11,7 @@ use borrow.Author.Needs.{needs}
 use Rattle.numbers.specs.Sums.{table}
 use Rattle.numbers.proofs.Filled.{Filled, fill-none, fill-step, fill-all}
 use Rattle.wire.proofs.Bytes.{minus-one, fits-negative}
-use Rattle.console.specs.Taking.{MOST-LENT, lent}
+use Rattle.console.specs.Input.{MOST-LENT, lent}
 use Rattle.console.proofs.cursor.lent_numbers.Statement.{statement}
 use Rattle.console.proofs.cursor.lent_numbers.Tie as tie
 

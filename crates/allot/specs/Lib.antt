@@ -1,0 +1,4 @@
+pub mod Allotted
+pub mod UserWeights
+pub mod Shared
+pub mod Slots

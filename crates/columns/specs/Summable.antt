@@ -1,0 +1,5 @@
+-- How large an amount may be so that sums of a million fit into 64 bits. Assumes nothing.
+use Prim.Native.Nat.{ℕ}
+
+abbrev pub SUMMABLE : ℕ
+SUMMABLE = 1000000000000

@@ -1,0 +1,13 @@
+-- `day_file::is_whole` meets its contract. Assumes nothing.
+use borrow.Author.Tests.{lt-leb, le-leb}
+use Rattle.day_file.proofs.is_whole.Statement.{statement}
+use Rattle.day_file.proofs.is_whole.Tie as tie
+
+returns : tie.Need-returns
+returns c = rw (lt-leb _ _ (c .if1 .taken))
+
+returns-2 : tie.Need-returns-2
+returns-2 c = rw (le-leb _ _ (c .if1 .left))
+
+pub is-whole-spec : {M : Type 1} → statement M
+is-whole-spec = tie.close (tie.spec returns returns-2)

@@ -1,4 +1,0 @@
-pub mod Taking
-pub mod Entries
-pub mod Leading
-pub mod SectionEntries

@@ -1,0 +1,59 @@
+-- `line::line` meets its contract: what its tests find, it does. Assumes nothing.
+use mathlib.Core.Path.{_≡_, ap₂, _∙_}
+use native.Mathlib.Omega.{arith}
+use borrow.Author.Needs.{needs}
+use Rattle.point_day.specs.Limits.{LIMIT}
+use Rattle.point_day.specs.Answers.{answer-of}
+use Rattle.point_day.specs.Struct.{Sized, outcome}
+use Rattle.state.proofs.Cells.{low-from}
+use Rattle.taken.proofs.Facts.{facts}
+use Rattle.line.specs.Lined.{Lines}
+use Rattle.line.proofs.line.Statement.{statement}
+use Rattle.line.proofs.line.Tie as tie
+
+line-test-requires : tie.Need-line-test-requires
+line-test-requires c κs = search needs
+
+enum-known-test : tie.Need-enum-known-test
+enum-known-test c = search needs
+
+refuse-requires : tie.Need-refuse-requires
+refuse-requires c κs = search needs
+
+enum-known-test-2 : tie.Need-enum-known-test-2
+enum-known-test-2 c = search needs
+
+line-at-requires : tie.Need-line-at-requires
+line-at-requires c κs =
+    let a = c .before .before .before .before .before .before .before .before .before .before .before .before .before .before .before .args in
+    let d = a .t1 in
+    let t = c .before .test2 .given in
+    let z : Sized d = record { users = search needs; consumption = search needs; losses = search needs; balance = search needs; revision = search needs } in
+    let L : Lines (a .user) (a .kind) (a .consumption) (a .coefficient) d (t .0 .0) (t .0 .1 .0) = rw (t .1) at (c .before .before .before .line-test .ensures (d .stage)) in
+    let F = facts d z (L .taken) in
+    (L .place, L .amount, L .added, low-from LIMIT (d .consumption) (F .arrays .consumption .range) LIMIT (omega arith) _, low-from LIMIT (d .losses) (F .arrays .losses .range) LIMIT (omega arith) _)
+
+returns : tie.Need-returns
+returns c =
+    let a = c .before .before .before .before .before .before .before .before .before .before .before .before .before .before .before .before .args in
+    let t = c .before .before .test .given in
+    c .refuse .ensures ∙ (rw (t .1) at (c .before .before .before .before .line-test .ensures (a .t1 .stage)))
+
+returns-2 : tie.Need-returns-2
+returns-2 c =
+    let a = c .before .before .before .before .before .before .before .before .before .before .before .before .before .before .before .before .args in
+    let t = c .before .before .test2 .given in
+    let L : Lines (a .user) (a .kind) (a .consumption) (a .coefficient) (a .t1) (t .0 .0) (t .0 .1 .0) = rw (t .1) at (c .before .before .before .before .line-test .ensures (a .t1 .stage)) in
+    ap₂ (λ x y. outcome (answer-of x) y) (c .line-at .ensures .0) (c .line-at .ensures .1) ∙ L .is
+
+pub line-spec : {M : Type 1} → statement M
+line-spec =
+    tie.close
+    (tie.spec
+    line-test-requires
+    enum-known-test
+    refuse-requires
+    enum-known-test-2
+    line-at-requires
+    returns
+    returns-2)

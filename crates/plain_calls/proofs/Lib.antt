@@ -1,4 +1,0 @@
-pub mod Outcomes
-pub mod Refusals
-pub mod Listed
-pub mod ReadBack

@@ -1,3 +1,0 @@
-pub mod Plain
-pub mod Listing
-pub mod Cases

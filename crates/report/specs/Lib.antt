@@ -1,0 +1,3 @@
+pub mod Allotted
+pub mod Lines
+pub mod Room

@@ -1,0 +1,3 @@
+pub mod Revised
+pub mod Revisions
+pub mod Assigning

@@ -1,0 +1,145 @@
+// Revise: what net has over everything allotted, assigned to the users if it lies outside the tolerance.
+pub mod assignment;
+pub mod outstanding;
+
+ghost use mathlib.Core.Path.{_≡_};
+ghost use Prim.Native.Nat.{_≤_};
+ghost use lib.ListN.{length};
+ghost use Rattle.numbers.specs.Lists.{both};
+ghost use Rattle.numbers.specs.Amounts.{SAFE};
+ghost use Rattle.point_day.specs.Limits.{USERS, TOLERANCE};
+ghost use Rattle.point_day.specs.Day.{provisional};
+ghost use Rattle.point_day.specs.Fields.{point-day, set-revision};
+ghost use Rattle.point_day.specs.Calls.{within-tolerance, revision-assigned, revise};
+ghost use Rattle.point_day.specs.Answers.{answer-of};
+ghost use Rattle.point_day.specs.Struct.{outcome, called};
+ghost use Rattle.state.specs.Places.{Lengths};
+ghost use Rattle.revise.specs.Revised.{Tested};
+use point_day::Answer;
+use point_day::Measurement;
+use point_day::Outcome;
+use point_day::PointDay;
+use point_day::Stage;
+use point_day::TOLERANCE;
+use point_day::USERS;
+
+// What the tests of a revise find: a refusal, or R, within the tolerance or assigned.
+pub enum ReviseTest {
+    Refused(u8),
+    Within(i64),
+    Assigned(i64),
+}
+
+// Whether the stage is provisional allotted.
+fn is_revisable(stage: Stage, allotted: bool) -> bool
+    ensures { λ r. ⌜ r ≡ both (provisional stage) allotted ⌝ }
+{
+    if state::is_provisional(stage) {
+        return allotted;
+    }
+    false
+}
+
+// The tests of a revise by any tolerance, on the parts of a point-day. `column` has the revisions afterwards, if R is assigned.
+pub fn revise_test<'a>(
+    stage: Stage,
+    allotted: bool,
+    measurement: Measurement,
+    n: usize,
+    users: &'a [u16],
+    consumption: &'a [i64],
+    losses: &'a [i64],
+    balance: &'a [i64],
+    revision: &'a [i64],
+    tolerance: u64,
+    column: &mut [i64],
+) -> ReviseTest
+    requires { ⌜ (length (now users) ≡ USERS) × Lengths (now consumption) (now losses) (now balance) (now revision) × (length (now column) ≡ USERS) × (tolerance ≤ SAFE) ⌝ }
+    ensures { λ r. ⌜ Tested tolerance (point-day stage allotted measurement n (now (users .entry)) (now (consumption .entry)) (now (losses .entry)) (now (balance .entry)) (now (revision .entry))) r (now (column .exit)) ⌝ }
+{
+    let state = taken::test_state(
+        allotted,
+        measurement,
+        n,
+        users,
+        consumption,
+        losses,
+        balance,
+        revision,
+        column,
+    );
+    if !state.taken {
+        return ReviseTest::Refused(numbers::OUT_OF_RANGE);
+    }
+    if !is_revisable(stage, allotted) {
+        return ReviseTest::Refused(numbers::WRONG_STAGE);
+    }
+    let amount = outstanding::outstanding(measurement, state.sum);
+    if numbers::size_at_most(amount, tolerance) {
+        return ReviseTest::Within(amount);
+    }
+    if columns::any_negative(&column[..n]) {
+        return ReviseTest::Refused(numbers::NEGATIVE_WEIGHT);
+    }
+    if !assignment::assign(amount, &users[..n], revision, column) {
+        return ReviseTest::Refused(numbers::AMOUNT_TOO_LARGE);
+    }
+    ReviseTest::Assigned(amount)
+}
+
+// The point-day as it was, and R.
+fn within(amount: i64, day: PointDay) -> Outcome
+    ensures { λ r. ⌜ outcome (answer-of (r .answer)) (r .day) ≡ outcome (within-tolerance amount) day ⌝ }
+{
+    Outcome {
+        answer: Answer::WithinTolerance(amount),
+        day: day,
+    }
+}
+
+// The point-day with other revisions, and R.
+fn assigned(amount: i64, column: [i64; USERS], day: PointDay) -> Outcome
+    ensures { λ r. ⌜ outcome (answer-of (r .answer)) (r .day) ≡ outcome (revision-assigned amount) (set-revision column day) ⌝ }
+{
+    let next = PointDay {
+        revision: column,
+        ..day
+    };
+    Outcome {
+        answer: Answer::RevisionAssigned(amount),
+        day: next,
+    }
+}
+
+// Revise by any tolerance.
+pub fn revise_by(day: PointDay, tolerance: u64) -> Outcome
+    requires { ⌜ tolerance ≤ SAFE ⌝ }
+    ensures { λ r. ⌜ outcome (answer-of (r .answer)) (r .day) ≡ called (revise tolerance) day ⌝ }
+{
+    let mut column = point_day::no_amounts();
+    let test = revise_test(
+        day.stage,
+        day.allotted,
+        day.measurement,
+        day.count,
+        &day.users,
+        &day.consumption,
+        &day.losses,
+        &day.balance,
+        &day.revision,
+        tolerance,
+        &mut column,
+    );
+    match test {
+        ReviseTest::Refused(number) => point_day::refuse(number, day),
+        ReviseTest::Within(amount) => within(amount, day),
+        ReviseTest::Assigned(amount) => assigned(amount, column, day),
+    }
+}
+
+// Revise.
+pub fn revise(day: PointDay) -> Outcome
+    ensures { λ r. ⌜ outcome (answer-of (r .answer)) (r .day) ≡ called (revise TOLERANCE) day ⌝ }
+{
+    revise_by(day, TOLERANCE)
+}

@@ -1,0 +1,3 @@
+pub mod StandsIn
+pub mod Rows
+pub mod Openings

@@ -1,0 +1,64 @@
+-- What the test of a point-day finds. Assumes nothing.
+use mathlib.Core.Bool.{Bool, true, false, not}
+use mathlib.Core.List.{List, _++_, map}
+use mathlib.Core.Path.{_≡_}
+use Prim.Native.Nat.{ℕ, _+_, _*_, _≤_, _<_}
+use lib.IntN.{ℤ, pos, natAbs}
+use lib.ListN.{length, take, drop, getD}
+use lib.Signed.{leZ}
+use Rattle.numbers.specs.Sums.{sumZ, table, total}
+use Rattle.numbers.specs.Lists.{every, has, distinct}
+use Rattle.numbers.specs.Amounts.{Decides}
+use Rattle.point_day.specs.Limits.{USERS, KINDS, LIMIT, AMOUNT}
+use Rattle.point_day.specs.Day.{all-whole, is-measured, no-more, measurement-right}
+use Rattle.point_day.specs.Struct.{read, taken}
+use Rattle.point_day.specs.declared.Measurement.{Measurement}
+use Rattle.point_day.specs.declared.PointDay.{PointDay}
+use Rattle.state.specs.Places.{From, LowSlot, offtake-at, whole-at}
+use Rattle.taken.specs.Ranges.{Arrays, Wholes}
+use Rattle.taken.specs.declared.StateTest.{StateTest}
+
+-- whether the point-day d is taken; if it is, the sum of its whole amounts, and the column that held `before` starts with them
+pub record TestedState (d : PointDay) (before : List ℤ) (r : StateTest) (after : List ℤ) : Type 0 where
+  pub is : r .taken ≡ taken d
+  pub sum : r .taken ≡ true → r .sum ≡ all-whole (read d .users)
+  pub wholes : r .taken ≡ true → after ≡ table (whole-at (d .consumption) (d .losses) (d .balance) (d .revision)) (d .count) ++ drop (d .count) before
+
+-- a test that decides P; if P holds, the sum of n whole amounts f, and the column starts with them
+pub record Found (P : Type 0) (f : ℕ → ℤ) (n : ℕ) (before : List ℤ) (r : StateTest) (after : List ℤ) : Type 0 where
+  pub decides : Decides (r .taken) P
+  pub sum : r .taken ≡ true → r .sum ≡ sumZ f n
+  pub wholes : r .taken ≡ true → after ≡ table f n ++ drop n before
+
+-- number of users, user numbers and measurement
+pub record Head (m : Measurement) (n : ℕ) (us : List ℕ) : Type 0 where
+  pub few : n ≤ USERS
+  pub past : (i : ℕ) → n ≤ i → i < length us → getD us i 0 ≡ 0
+  pub named : has 0 (take n us) ≡ false
+  pub apart : distinct (take n us) ≡ true
+  pub measurement : measurement-right m ≡ true
+
+-- consumption and losses of n users, and their sum
+pub record Offtakes (n : ℕ) (cs ls : List ℤ) : Type 0 where
+  pub low : (s : ℕ) → s < n → LowSlot cs ls s
+  pub limit : leZ (sumZ (offtake-at cs ls) n) (pos LIMIT) ≡ true
+
+-- while entering: neither balance nor revision, and nothing past the last user
+pub record Entering (n : ℕ) (cs ls bs rs : List ℤ) : Type 0 where
+  pub balance : From 0 (pos 0) (pos 0) bs
+  pub revision : From 0 (pos 0) (pos 0) rs
+  pub consumption : From (KINDS * n) (pos 0) (pos 0) cs
+  pub losses : From (KINDS * n) (pos 0) (pos 0) ls
+  pub offtakes : Offtakes n cs ls
+
+-- once allotted: with user and measurement
+pub record Allotted (m : Measurement) (n : ℕ) (cs ls bs rs : List ℤ) : Type 0 where
+  pub users : n ≡ 0 → ⊥
+  pub measured : is-measured m ≡ true
+  pub arrays : Arrays n cs ls bs rs
+  pub offtake : total (map natAbs cs) + total (map natAbs ls) ≤ LIMIT
+  pub wholes : Wholes n (whole-at cs ls bs rs)
+
+-- refusal 12, on a column of whole amounts
+abbrev pub any-large : List ℤ → Bool
+any-large ws = not (every (no-more AMOUNT) ws)
