@@ -1,15 +1,15 @@
 -- The tests of `seatpomelo_split`, and what follows from them. Assumes nothing.
-use mathlib.Core.Path.{_≡_, refl, ap}
+use mathlib.Core.Path.{_≡_, refl, sym, ap}
 use mathlib.Core.Bool.{Bool, true, false}
 use mathlib.Core.List.{List, [], _∷_, _++_}
 use Prim.Native.Nat.{ℕ, zero, suc, _≤_, _<_}
 use native.Mathlib.Omega.{arith}
-use borrow.Author.Tests.{leb-true, ltb-true, le-leb, lt-leb, lt-ltb, le-ltb}
-use lib.Dec.{ltb, leb}
+use borrow.Author.Tests.{leb-true, ltb-true, eqb-true, le-leb, lt-leb, lt-ltb, le-ltb, eq-eqb, ne-eqb}
+use lib.Dec.{ltb, leb, eqb}
 use lib.IntN.{ℤ, natAbs}
 use lib.ListN.{length, drop}
 use Rattle.numbers.specs.Sums.{at, Bounded}
-use Rattle.numbers.specs.Lists.{both, every}
+use Rattle.numbers.specs.Lists.{both, every, distinct}
 use Rattle.numbers.specs.Amounts.{Within}
 use Rattle.numbers.proofs.Lists.{both-fst, both-snd, both-true}
 use Rattle.proration.specs.Proration.{PARTIES, LARGEST-AMOUNT, LARGEST-WEIGHT, prorateZ}
@@ -43,25 +43,27 @@ pub record Ranged (z : ℤ) (ws ks : List ℕ) : Type 0 where
   pub amount : Within LARGEST-AMOUNT z
   pub some : 0 < length ws
   pub few : length ws ≤ PARTIES
-  pub keyed : length ws ≤ length ks
+  pub keyed : length ws ≡ length ks
+  pub apart : distinct ks ≡ true
   pub weights : Bounded LARGEST-WEIGHT ws
 
 module _ (z : ℤ) (ws ks : List ℕ) where
   pub ranged : in-range z ws ks ≡ true → Ranged z ws ks
   unfolding in-range
   ranged h =
-      let w = every (λ x. leb x LARGEST-WEIGHT) ws in
       let n = length ws in
-      let k = leb n (length ks) in
-      let p = leb n PARTIES in
-      let h₁ = both-snd (leb (natAbs z) LARGEST-AMOUNT) (both (ltb 0 n) (both p (both k w))) h in
-      let h₂ = both-snd (ltb 0 n) (both p (both k w)) h₁ in
-      let h₃ = both-snd p (both k w) h₂ in record {
-        amount = record { size = leb-true (natAbs z) LARGEST-AMOUNT (both-fst (leb (natAbs z) LARGEST-AMOUNT) (both (ltb 0 n) (both p (both k w))) h) };
-        some = ltb-true 0 n (both-fst (ltb 0 n) (both p (both k w)) h₁);
-        few = leb-true n PARTIES (both-fst p (both k w) h₂);
-        keyed = leb-true n (length ks) (both-fst k w h₃);
-        weights = every-bounded LARGEST-WEIGHT ws (both-snd k w h₃);
+      let a = leb (natAbs z) LARGEST-AMOUNT in
+      let w = every (λ x. leb x LARGEST-WEIGHT) ws in
+      let h₁ = both-snd a _ h in
+      let h₂ = both-snd (ltb 0 n) _ h₁ in
+      let h₃ = both-snd (leb n PARTIES) _ h₂ in
+      let h₄ = both-snd (eqb n (length ks)) _ h₃ in record {
+        amount = record { size = leb-true (natAbs z) LARGEST-AMOUNT (both-fst a _ h) };
+        some = ltb-true 0 n (both-fst (ltb 0 n) _ h₁);
+        few = leb-true n PARTIES (both-fst (leb n PARTIES) _ h₂);
+        keyed = eqb-true n (length ks) (both-fst (eqb n (length ks)) _ h₃);
+        apart = both-snd w _ h₄;
+        weights = every-bounded LARGEST-WEIGHT ws (both-fst w _ h₄);
       }
 
   -- the tests one after the other
@@ -78,13 +80,18 @@ module _ (z : ℤ) (ws ks : List ℕ) where
     unfolding in-range
     too-many s h = rw (a, lt-ltb 0 (length ws) s, lt-leb (length ws) PARTIES h)
 
-    pub no-key : 0 < length ws → length ws ≤ PARTIES → length ks < length ws → in-range z ws ks ≡ false
+    pub no-key : 0 < length ws → length ws ≤ PARTIES → (length ks ≡ length ws → ⊥) → in-range z ws ks ≡ false
     unfolding in-range
-    no-key s f h = rw (a, lt-ltb 0 (length ws) s, le-leb (length ws) PARTIES f, lt-leb (length ws) (length ks) h)
+    no-key s f h = rw (a, lt-ltb 0 (length ws) s, le-leb (length ws) PARTIES f, ne-eqb (length ws) (length ks) (λ e. h (sym e)))
 
-    pub by-weights : 0 < length ws → length ws ≤ PARTIES → length ws ≤ length ks → in-range z ws ks ≡ every (λ w. leb w LARGEST-WEIGHT) ws
-    unfolding in-range
-    by-weights s f k = rw (a, lt-ltb 0 (length ws) s, le-leb (length ws) PARTIES f, le-leb (length ws) (length ks) k)
+    module _ (s : 0 < length ws) (f : length ws ≤ PARTIES) (k : length ks ≡ length ws) where
+      pub no-weight : every (λ w. leb w LARGEST-WEIGHT) ws ≡ false → in-range z ws ks ≡ false
+      unfolding in-range
+      no-weight h = rw (a, lt-ltb 0 (length ws) s, le-leb (length ws) PARTIES f, eq-eqb (length ws) (length ks) (sym k), h)
+
+      pub by-keys : every (λ w. leb w LARGEST-WEIGHT) ws ≡ true → in-range z ws ks ≡ distinct ks
+      unfolding in-range
+      by-keys h = rw (a, lt-ltb 0 (length ws) s, le-leb (length ws) PARTIES f, eq-eqb (length ws) (length ks) (sym k), h)
 
   -- what the call answers and leaves
   module _ (out : List ℤ) where

@@ -7,14 +7,20 @@ use lib.Dec.{eqb, ltb, leb}
 use lib.IntN.{ℤ, pos, negℤ, natAbs}
 use lib.ListN.{length, drop}
 use Rattle.numbers.specs.Sums.{pick}
-use Rattle.numbers.specs.Lists.{both, every}
+use Rattle.numbers.specs.Lists.{both, every, has, distinct}
 use Rattle.proration.specs.Proration.{PARTIES, LARGEST-AMOUNT, LARGEST-WEIGHT, prorateZ}
 
--- an amount, 1 to 366 weights and a key for each of them, within the limits of any split in document 01
+-- keys are sorted into so many buckets by their remainder, to find one that stands twice
+abbrev pub BUCKETS : ℕ
+BUCKETS = 1024
+
+-- an amount, 1 to 366 weights, and a key for each of them, no two alike, within the limits of any split in document 01
 unfoldable pub in-range : ℤ → List ℕ → List ℕ → Bool
 in-range z ws ks =
     both (leb (natAbs z) LARGEST-AMOUNT)
-    (both (ltb 0 (length ws)) (both (leb (length ws) PARTIES) (both (leb (length ws) (length ks)) (every (λ w. leb w LARGEST-WEIGHT) ws))))
+    (both (ltb 0 (length ws))
+    (both (leb (length ws) PARTIES)
+    (both (eqb (length ws) (length ks)) (both (every (λ w. leb w LARGEST-WEIGHT) ws) (distinct ks)))))
 
 -- the number of a refusal in document 01, section "Refusals": 2, out of range; 14, a lent buffer with less than one number a party;
 -- or 0, not refused
@@ -27,17 +33,26 @@ after z ws ks out = pick (eqb (answer z ws ks out) 0) (prorateZ z ws ks ++ drop 
 
 -- the limits
 most : in-range (negℤ (pos 1000000000)) (2000000000 ∷ []) (7 ∷ []) ≡ true
-unfolding in-range every
+unfolding in-range every has distinct
 most = refl
 
 over : in-range (pos 1000000001) (1 ∷ []) (7 ∷ []) ≡ false
-unfolding in-range every
+unfolding in-range every has distinct
 over = refl
 
+-- as many keys as weights, no two alike: nobody is given more than there is
+one-key-twice : answer (pos 1) (1 ∷ 1 ∷ []) (7 ∷ 7 ∷ []) (pos 0 ∷ pos 0 ∷ []) ≡ 2
+unfolding answer in-range every has distinct
+one-key-twice = refl
+
+a-key-too-many : answer (pos 1) (1 ∷ []) (7 ∷ 8 ∷ []) (pos 0 ∷ []) ≡ 2
+unfolding answer in-range every has distinct
+a-key-too-many = refl
+
 no-key : answer (pos 10) (1 ∷ 1 ∷ []) (7 ∷ []) [] ≡ 2
-unfolding answer in-range every
+unfolding answer in-range every has distinct
 no-key = refl
 
 short : answer (pos 10) (1 ∷ 1 ∷ []) (7 ∷ 8 ∷ []) (pos 5 ∷ []) ≡ 14
-unfolding answer in-range every
+unfolding answer in-range every has distinct
 short = refl

@@ -1,5 +1,6 @@
 // How a split is found: the units left over, a split by largest remainder, and the calls, for an amount of either sign and for programs in
 // other languages.
+mod keys;
 pub mod largest_remainder;
 mod leftover;
 
@@ -93,10 +94,13 @@ fn in_range(amount: i64, ws: &[u64], keys: &[u64]) -> bool
     if PARTIES < ws.len() {
         return false;
     }
-    if keys.len() < ws.len() {
+    if keys.len() != ws.len() {
         return false;
     }
-    none_above(ws, LARGEST_WEIGHT)
+    if !none_above(ws, LARGEST_WEIGHT) {
+        return false;
+    }
+    keys::are_distinct(keys)
 }
 
 // What `seatpomelo_split` answers: done, or document 01's number of a refusal.

@@ -2,7 +2,7 @@
 use mathlib.Core.Path.{sym, _∙_}
 use mir.Facts.{toZ-ofZ}
 use borrow.Author.Tests.{not-true, not-false}
-use Rattle.split.proofs.Call.{no-amount, no-party, too-many, no-key, by-weights}
+use Rattle.split.proofs.Call.{no-amount, no-party, too-many, no-key, no-weight, by-keys}
 use native.Mathlib.Omega.{arith}
 use borrow.Author.Needs.{needs}
 use Rattle.split.proofs.in_range.Statement.{statement}
@@ -27,7 +27,18 @@ none-above-requires : tie.Need-none-above-requires
 none-above-requires c κs = search needs
 
 returns-5 : tie.Need-returns-5
-returns-5 c = c .none-above .ensures ∙ sym (by-weights (c .before .before .before .before .before .before .before .before .args .amount) (c .before .before .before .before .before .before .before .before .args .ws .now) (c .before .before .before .before .before .before .before .before .args .keys .now) (sym (rw (toZ-ofZ (c .before .before .before .before .before .before .before .before .fits .amount)) at (c .before .before .before .before .before .size-at-most .ensures)) ∙ not-false _ (c .before .before .before .before .if1 .left)) (omega arith) (c .before .before .if3 .left) (c .before .if4 .left))
+returns-5 c =
+    let w = sym (c .before .none-above .ensures) ∙ not-true _ (c .if5 .taken) in
+    sym (no-weight (c .before .before .before .before .before .before .before .before .before .args .amount) (c .before .before .before .before .before .before .before .before .before .args .ws .now) (c .before .before .before .before .before .before .before .before .before .args .keys .now) (sym (rw (toZ-ofZ (c .before .before .before .before .before .before .before .before .before .fits .amount)) at (c .before .before .before .before .before .before .size-at-most .ensures)) ∙ not-false _ (c .before .before .before .before .before .if1 .left)) (omega arith) (c .before .before .before .if3 .left) (c .before .before .if4 .left) w)
+
+are-distinct-requires : tie.Need-are-distinct-requires
+are-distinct-requires c κs = search needs
+
+returns-6 : tie.Need-returns-6
+returns-6 c =
+    let w = sym (c .before .before .none-above .ensures) ∙ not-false _ (c .before .if5 .left) in
+    c .are-distinct .ensures
+    ∙ sym (by-keys (c .before .before .before .before .before .before .before .before .before .before .args .amount) (c .before .before .before .before .before .before .before .before .before .before .args .ws .now) (c .before .before .before .before .before .before .before .before .before .before .args .keys .now) (sym (rw (toZ-ofZ (c .before .before .before .before .before .before .before .before .before .before .fits .amount)) at (c .before .before .before .before .before .before .before .size-at-most .ensures)) ∙ not-false _ (c .before .before .before .before .before .before .if1 .left)) (omega arith) (c .before .before .before .before .if3 .left) (c .before .before .before .if4 .left) w)
 
 pub in-range-spec : {M : Type 1} → statement M
 in-range-spec =
@@ -39,4 +50,6 @@ in-range-spec =
     returns-3
     returns-4
     none-above-requires
-    returns-5)
+    returns-5
+    are-distinct-requires
+    returns-6)

@@ -3,6 +3,7 @@ use mathlib.Core.Path.{sym, _∙_}
 use mir.Facts.{toZ-ofZ}
 use borrow.Author.Tests.{not-true, not-false}
 use Rattle.split.proofs.Call.{ranged, refused, too-short, done}
+use native.Mathlib.Omega.{arith}
 use borrow.Author.Needs.{needs}
 use Rattle.split.proofs.seatpomelo_split.Statement.{statement}
 use Rattle.split.proofs.seatpomelo_split.Tie as tie
@@ -24,7 +25,7 @@ weight-total-requires c κs =
 prorate-signed-requires : tie.Need-prorate-signed-requires
 prorate-signed-requires c κs =
     let r = ranged (c .before .before .before .before .before .before .before .args .amount) (c .before .before .before .before .before .before .before .args .ws .now) (c .before .before .before .before .before .before .before .args .keys .now) (sym (rw (toZ-ofZ (c .before .before .before .before .before .before .before .fits .amount)) at (c .before .before .before .before .in-range .ensures)) ∙ not-false _ (c .before .before .before .if1 .left)) in
-    rw (toZ-ofZ (c .before .before .before .before .before .before .before .fits .amount)) ((r .amount, c .before .weight-total .ensures, r .some, r .few, r .weights), (r .keyed, c .before .before .if2 .left))
+    rw (toZ-ofZ (c .before .before .before .before .before .before .before .fits .amount)) ((r .amount, c .before .weight-total .ensures, r .some, r .few, r .weights), (omega (arith, r .keyed), c .before .before .if2 .left))
 
 same-length : tie.Need-same-length
 same-length c = search needs

@@ -1,0 +1,24 @@
+-- `seatpomelo::lists::own_in` meets its contract. Assumes nothing.
+use mathlib.Core.Path.{sym}
+use Rattle.seatpomelo.proofs.lists.Optional.{no-own, one-own, more-own}
+use borrow.Author.Needs.{needs}
+use Rattle.seatpomelo.proofs.lists.own_in.Statement.{statement}
+use Rattle.seatpomelo.proofs.lists.own_in.Tie as tie
+
+returns : tie.Need-returns
+returns c = sym (no-own (c .before .args .list .now) (c .if1 .taken))
+
+shared-slice-read-t5 : tie.Need-shared-slice-read-t5
+shared-slice-read-t5 c = search needs
+
+returns-2 : tie.Need-returns-2
+returns-2 c = sym (one-own (c .before .before .before .args .list .now) (c .before .if2 .taken))
+
+add-t6 : tie.Need-add-t6
+add-t6 c = search needs
+
+returns-3 : tie.Need-returns-3
+returns-3 c = sym (more-own (c .before .before .args .list .now) (c .before .if1 .left) (c .if2 .left))
+
+pub own-in-spec : {M : Type 1} → statement M
+own-in-spec = tie.close (tie.spec returns shared-slice-read-t5 returns-2 add-t6 returns-3)

@@ -1,0 +1,271 @@
+// The calls for programs in other languages, on numbers and lists that the caller lends.
+pub mod lists;
+
+ghost use mathlib.Core.Path.{_≡_};
+ghost use mathlib.Core.List.{[], _∷_};
+ghost use Rattle.calendar.specs.Answers.{answer-of};
+ghost use Rattle.calendar.specs.DayTypes.{type-call};
+ghost use Rattle.months.specs.WorkingDays.{month-call};
+ghost use Rattle.degree_days.specs.Degrees.{degree-days-call};
+ghost use Rattle.zones.specs.Zones.{zone-call, province-call};
+ghost use Rattle.type_1.specs.Type1.{toll-34, other-toll};
+ghost use Rattle.type_2.specs.Type2.{type-2, profile};
+ghost use Rattle.telemetered.specs.Telemetered.{telemetered};
+ghost use Rattle.seatpomelo.specs.Settled.{settled, settles, number, size, type-number, month-numbers, province-numbers, estimate-numbers};
+ghost use Rattle.seatpomelo.specs.Lists.{amount-in, own-in, flows-in, entries-in, entry-count};
+use calendar::DayType;
+use calendar::DayTypeAnswer;
+use calendar::NumberAnswer;
+use degree_days::DegreeDaysAnswer;
+use history::ENTRIES;
+use months::MonthAnswer;
+use numbers::OUT_OF_RANGE;
+use telemetered::TelemeteredAnswer;
+use zones::ProvinceAnswer;
+
+// ---- Statuses and values
+
+// An accepted call's value is written, and its status is 0.
+fn give(out: &mut u64, value: u64) -> u8
+    ensures { λ r. ⌜ (r ≡ 0) × (now (out .exit) ≡ value) ⌝ }
+{
+    *out = value;
+    0
+}
+
+// The same with two values.
+fn give_two(out: &mut u64, value: u64, second: &mut u64, other: u64) -> u8
+    ensures { λ r. ⌜ (r ≡ 0) × (now (out .exit) ≡ value) × (now (second .exit) ≡ other) ⌝ }
+{
+    *out = value;
+    *second = other;
+    0
+}
+
+// A call that gives one number.
+fn settle(answer: NumberAnswer, out: &mut u64) -> u8
+    ensures { λ r. ⌜ settled r (now (out .exit) ∷ []) ≡ settles number (answer-of answer) (now (out .entry) ∷ []) ⌝ }
+{
+    match answer {
+        NumberAnswer::Refused(number) => number,
+        NumberAnswer::Given(value) => give(out, value),
+    }
+}
+
+// A day type's number.
+fn type_number(day_type: DayType) -> u64
+    ensures { λ r. ⌜ r ∷ [] ≡ type-number «day_type» ⌝ }
+{
+    match day_type {
+        DayType::Working => 0,
+        DayType::Saturday => 1,
+        DayType::SundayOrHoliday => 2,
+    }
+}
+
+// ---- Calendar
+
+// The type of a gas day.
+#[no_mangle]
+pub extern "C" fn seatpomelo_day_type(day: u32, holidays: &[u32], day_type: &mut u64) -> u8
+    ensures { λ r. ⌜ settled r (now («day_type» .exit) ∷ []) ≡ settles type-number (type-call day (now (holidays .entry))) (now («day_type» .entry) ∷ []) ⌝ }
+{
+    let answer = calendar::day_type(day, holidays);
+    match answer {
+        DayTypeAnswer::Refused(number) => number,
+        DayTypeAnswer::Is(found) => give(day_type, type_number(found)),
+    }
+}
+
+// The month of a gas day: its first day, its days, the mask of its working days and how many they are.
+#[no_mangle]
+pub extern "C" fn seatpomelo_month(
+    day: u32,
+    holidays: &[u32],
+    first: &mut u64,
+    days: &mut u64,
+    mask: &mut u64,
+    working: &mut u64,
+) -> u8
+    ensures { λ r. ⌜ settled r (now (first .exit) ∷ now (days .exit) ∷ now (mask .exit) ∷ now (working .exit) ∷ []) ≡ settles month-numbers (month-call day (now (holidays .entry))) (now (first .entry) ∷ now (days .entry) ∷ now (mask .entry) ∷ now (working .entry) ∷ []) ⌝ }
+{
+    let answer = months::month_figures(day, holidays);
+    match answer {
+        MonthAnswer::Refused(number) => number,
+        MonthAnswer::Figures {
+            first: a,
+            days: b,
+            mask: c,
+            working: d,
+        } => {
+            give_two(first, a as u64, days, b as u64);
+            give_two(mask, c as u64, working, d as u64)
+        }
+    }
+}
+
+// ---- Consumption of a supply point
+
+// Telemetered: consumption, and the entries looked at.
+#[no_mangle]
+pub extern "C" fn seatpomelo_telemetered(
+    day: u32,
+    holidays: &[u32],
+    reading: &[u64],
+    own: &[u64],
+    toll: u8,
+    yearly: &[u64],
+    daily: &[u64],
+    factor: u32,
+    tags: &[u8],
+    values: &[u64],
+    consumption: &mut u64,
+    looked_at: &mut u64,
+) -> u8
+    ensures { λ r. ⌜ settled r (now (consumption .exit) ∷ now («looked_at» .exit) ∷ []) ≡ settles estimate-numbers (telemetered day (now (holidays .entry)) (amount-in (now (reading .entry))) (own-in (now (own .entry))) (flows-in toll (now (yearly .entry)) (now (daily .entry)) factor) (entry-count (now (tags .entry)) (now (values .entry))) (entries-in (now (tags .entry)) (now (values .entry)))) (now (consumption .entry) ∷ now («looked_at» .entry) ∷ []) ⌝ }
+{
+    if tags.len() != values.len() {
+        return OUT_OF_RANGE;
+    }
+    if ENTRIES < tags.len() {
+        return OUT_OF_RANGE;
+    }
+    let answer = telemetered::telemetered(
+        day,
+        holidays,
+        lists::amount_in(reading),
+        lists::own_in(own),
+        lists::flows_in(toll, yearly, daily, factor),
+        lists::history_in(tags, values),
+        tags.len(),
+    );
+    match answer {
+        TelemeteredAnswer::Refused(number) => number,
+        TelemeteredAnswer::Consumption { kwh, looked } => {
+            give_two(consumption, kwh, looked_at, looked as u64)
+        }
+    }
+}
+
+// Type 1, toll 3.4.
+#[no_mangle]
+pub extern "C" fn seatpomelo_type_1_toll_34(
+    day: u32,
+    last_year: &[u64],
+    g: u32,
+    last_days: &[u32],
+    last_month: &[u64],
+    yearly: &[u64],
+    consumption: &mut u64,
+) -> u8
+    ensures { λ r. ⌜ settled r (now (consumption .exit) ∷ []) ≡ settles number (toll-34 day (amount-in (now («last_year» .entry))) g (now («last_days» .entry)) (amount-in (now («last_month» .entry))) (amount-in (now (yearly .entry)))) (now (consumption .entry) ∷ []) ⌝ }
+{
+    let answer = type_1::toll_34(
+        day,
+        lists::amount_in(last_year),
+        g,
+        last_days,
+        lists::amount_in(last_month),
+        lists::amount_in(yearly),
+    );
+    settle(answer, consumption)
+}
+
+// Type 1, another toll.
+#[no_mangle]
+pub extern "C" fn seatpomelo_type_1_other_toll(
+    day: u32,
+    holidays: &[u32],
+    last_year: &[u64],
+    c_c: u32,
+    last_month: &[u64],
+    daily: &[u64],
+    f_c: u32,
+    c_f: u32,
+    consumption: &mut u64,
+) -> u8
+    ensures { λ r. ⌜ settled r (now (consumption .exit) ∷ []) ≡ settles number (other-toll day (now (holidays .entry)) (amount-in (now («last_year» .entry))) «c_c» (amount-in (now («last_month» .entry))) (amount-in (now (daily .entry))) «f_c» «c_f») (now (consumption .entry) ∷ []) ⌝ }
+{
+    let answer = type_1::other_toll(
+        day,
+        holidays,
+        lists::amount_in(last_year),
+        c_c,
+        lists::amount_in(last_month),
+        lists::amount_in(daily),
+        f_c,
+        c_f,
+    );
+    settle(answer, consumption)
+}
+
+// Type 2, with the degree days of one winter or of two.
+#[no_mangle]
+pub extern "C" fn seatpomelo_type_2(
+    consumers: u32,
+    profile: u64,
+    g: u32,
+    winters: u8,
+    first: &[u32],
+    second: &[u32],
+    consumption: &mut u64,
+) -> u8
+    ensures { λ r. ⌜ settled r (now (consumption .exit) ∷ []) ≡ settles number (type-2 consumers profile g winters (now (first .entry)) (now (second .entry))) (now (consumption .entry) ∷ []) ⌝ }
+{
+    let answer = type_2::type_2(consumers, profile, g, winters, first, second);
+    settle(answer, consumption)
+}
+
+// A profile, in Wh.
+#[no_mangle]
+pub extern "C" fn seatpomelo_profile(
+    f1: u64,
+    f2: u64,
+    nc1: u32,
+    nc2: u32,
+    n1: u32,
+    n2: u32,
+    wh: &mut u64,
+) -> u8
+    ensures { λ r. ⌜ settled r (now (wh .exit) ∷ []) ≡ settles number (profile f1 f2 nc1 nc2 n1 n2) (now (wh .entry) ∷ []) ⌝ }
+{
+    let answer = type_2::profile(f1, f2, nc1, nc2, n1, n2);
+    settle(answer, wh)
+}
+
+// ---- Temperature
+
+// Degree days, in fortieths of a degree.
+#[no_mangle]
+pub extern "C" fn seatpomelo_degree_days(tmin: i32, tmax: i32, fortieths: &mut u64) -> u8
+    ensures { λ r. ⌜ settled r (now (fortieths .exit) ∷ []) ≡ settles size (degree-days-call tmin tmax) (now (fortieths .entry) ∷ []) ⌝ }
+{
+    let answer = degree_days::degree_days(tmin, tmax);
+    match answer {
+        DegreeDaysAnswer::Refused(number) => number,
+        DegreeDaysAnswer::Fortieths(value) => give(fortieths, value),
+    }
+}
+
+// The zone of a degree-day value, in hundredths.
+#[no_mangle]
+pub extern "C" fn seatpomelo_zone(hundredths: u32, zone: &mut u64) -> u8
+    ensures { λ r. ⌜ settled r (now (zone .exit) ∷ []) ≡ settles number (zone-call hundredths) (now (zone .entry) ∷ []) ⌝ }
+{
+    let answer = zones::zone_of(hundredths);
+    settle(answer, zone)
+}
+
+// A province's value, in hundredths, and its zone.
+#[no_mangle]
+pub extern "C" fn seatpomelo_province(number: u32, value: &mut u64, zone: &mut u64) -> u8
+    ensures { λ r. ⌜ settled r (now (value .exit) ∷ now (zone .exit) ∷ []) ≡ settles province-numbers (province-call number) (now (value .entry) ∷ now (zone .entry) ∷ []) ⌝ }
+{
+    let answer = zones::province_of(number);
+    match answer {
+        ProvinceAnswer::Refused(refusal) => refusal,
+        ProvinceAnswer::ValueAndZone { value: v, zone: z } => {
+            give_two(value, v as u64, zone, z as u64)
+        }
+    }
+}
