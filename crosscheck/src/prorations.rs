@@ -2,6 +2,8 @@
 //!
 //! A case is i64 amount, u16 n, n times u32 weight, n times u32 key; it prints the n shares.
 
+use std::collections::HashSet;
+
 use crate::bytes::{Reader, Writer};
 use crate::limits::{MAX_AMOUNT, MAX_ENERGY, MAX_INPUT, MAX_PERIOD};
 use crate::proration::{prorate, Party};
@@ -41,6 +43,10 @@ impl Case {
             keys.push(input.u32()?);
         }
         if weights.iter().any(|&weight| weight as i128 > MAX_AMOUNT) {
+            return None;
+        }
+        let distinct: HashSet<u32> = keys.iter().copied().collect();
+        if distinct.len() < keys.len() {
             return None;
         }
         Some(Case { amount, parties: weights.into_iter().zip(keys).collect() })

@@ -11,6 +11,8 @@ ghost use Rattle.zones.specs.Zones.{zone-call, province-call};
 ghost use Rattle.type_1.specs.Type1.{toll-34, other-toll};
 ghost use Rattle.type_2.specs.Type2.{type-2, profile};
 ghost use Rattle.telemetered.specs.Telemetered.{telemetered};
+ghost use Rattle.split.specs.Call.{answer, after};
+ghost use Rattle.spread.specs.Spread.{spread, number-of};
 ghost use Rattle.seatpomelo.specs.Settled.{settled, settles, number, size, type-number, month-numbers, province-numbers, estimate-numbers};
 ghost use Rattle.seatpomelo.specs.Lists.{amount-in, own-in, flows-in, entries-in, entry-count};
 use calendar::DayType;
@@ -20,6 +22,7 @@ use degree_days::DegreeDaysAnswer;
 use history::ENTRIES;
 use months::MonthAnswer;
 use numbers::OUT_OF_RANGE;
+use spread::SpreadAnswer;
 use telemetered::TelemeteredAnswer;
 use zones::ProvinceAnswer;
 
@@ -267,5 +270,34 @@ pub extern "C" fn seatpomelo_province(number: u32, value: &mut u64, zone: &mut u
         ProvinceAnswer::ValueAndZone { value: v, zone: z } => {
             give_two(value, v as u64, zone, z as u64)
         }
+    }
+}
+
+// ---- Proration, and spreading a reading
+
+// An amount of either sign prorated over weights; equal remainders go to the lower key.
+#[no_mangle]
+pub extern "C" fn seatpomelo_split(
+    amount: i64,
+    weights: &[u64],
+    keys: &[u64],
+    out: &mut [i64],
+) -> u8
+    ensures { λ r. ⌜ r ≡ answer amount (now (weights .entry)) (now (keys .entry)) (now (out .entry)) ⌝ }
+    ensures { λ _. ⌜ now (out .exit) ≡ after amount (now (weights .entry)) (now (keys .entry)) (now (out .entry)) ⌝ }
+{
+    split::split(amount, weights, keys, out)
+}
+
+// A reading spread over the days of its period.
+#[no_mangle]
+pub extern "C" fn seatpomelo_spread(reading: u64, weights: &[i64], out: &mut [i64]) -> u8
+    ensures { λ r. ⌜ r ≡ number-of (spread reading (now (weights .entry)) (now (out .entry)) .verdict) ⌝ }
+    ensures { λ r. ⌜ now (out .exit) ≡ spread reading (now (weights .entry)) (now (out .entry)) .buffer ⌝ }
+{
+    let answer = spread::spread(reading, weights, out);
+    match answer {
+        SpreadAnswer::Refused(number) => number,
+        SpreadAnswer::Done => 0,
     }
 }

@@ -1,4 +1,4 @@
--- The tests of `seatpomelo_split`, and what follows from them. Assumes nothing.
+-- The tests of `split`, and what follows from them. Assumes nothing.
 use mathlib.Core.Path.{_≡_, refl, sym, ap}
 use mathlib.Core.Bool.{Bool, true, false}
 use mathlib.Core.List.{List, [], _∷_, _++_}

@@ -1,4 +1,4 @@
--- The call for programs in other languages, `seatpomelo_split`: what it answers, and what it leaves in the lent buffer. Assumes nothing.
+-- The call for programs in other languages, `split`: what it answers, and what it leaves in the lent buffer. Assumes nothing.
 use mathlib.Core.Bool.{Bool, true, false}
 use mathlib.Core.List.{List, [], _∷_, _++_}
 use mathlib.Core.Path.{_≡_, refl}

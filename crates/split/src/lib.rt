@@ -103,25 +103,17 @@ fn in_range(amount: i64, ws: &[u64], keys: &[u64]) -> bool
     keys::are_distinct(keys)
 }
 
-// What `seatpomelo_split` answers: done, or document 01's number of a refusal.
-const DONE: u64 = 0;
-
-const OUT_OF_RANGE: u64 = 2;
-
-const SHORT_BUFFER: u64 = 14;
-
-// The signed amount prorated over the weights, for programs in other languages; any arguments will do.
-#[no_mangle]
-pub extern "C" fn seatpomelo_split(amount: i64, ws: &[u64], keys: &[u64], out: &mut [i64]) -> u64
+// The signed amount prorated over the weights, by any arguments: 0, or document 01's number of the refusal.
+pub fn split(amount: i64, ws: &[u64], keys: &[u64], out: &mut [i64]) -> u8
     ensures { λ r. ⌜ r ≡ answer amount (now (ws .entry)) (now (keys .entry)) (now (out .entry)) ⌝ }
     ensures { λ _. ⌜ now (out .exit) ≡ after amount (now (ws .entry)) (now (keys .entry)) (now (out .entry)) ⌝ }
 {
     if !in_range(amount, ws, keys) {
-        return OUT_OF_RANGE;
+        return numbers::OUT_OF_RANGE;
     }
     if out.len() < ws.len() {
-        return SHORT_BUFFER;
+        return numbers::SHORT_BUFFER;
     }
     prorate_signed(amount, ws, proration::weight_total(ws), keys, out);
-    DONE
+    0
 }

@@ -94,7 +94,7 @@ fn run_split(
     if !next.ok {
         return next;
     }
-    if split::seatpomelo_split(amount, weights, keys, shares) != 0 {
+    if split::split(amount, weights, keys, shares) != 0 {
         return cursor::failed(next);
     }
     print_line(shares);

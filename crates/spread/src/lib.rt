@@ -6,7 +6,7 @@ ghost use Prim.Native.Nat.{_≤_};
 ghost use lib.ListN.{length, drop, replicate};
 ghost use Rattle.proration.specs.Proration.{PARTIES};
 ghost use Rattle.spread.specs.Period.{in-range, days, parts};
-ghost use Rattle.spread.specs.Spread.{outcome, spread, answer-of, number-of};
+ghost use Rattle.spread.specs.Spread.{outcome, spread, answer-of};
 use numbers::NEGATIVE_WEIGHT;
 use numbers::OUT_OF_RANGE;
 use numbers::SHORT_BUFFER;
@@ -89,23 +89,4 @@ pub fn spread(reading: u64, weights: &[i64], out: &mut [i64]) -> SpreadAnswer
     }
     spread_days(reading, weights, out);
     SpreadAnswer::Done
-}
-
-// An answer as one number: that of the refusal, or 0.
-fn number_of_answer(answer: SpreadAnswer) -> u8
-    ensures { λ r. ⌜ r ≡ number-of (answer-of answer) ⌝ }
-{
-    match answer {
-        SpreadAnswer::Refused(n) => n,
-        SpreadAnswer::Done => 0,
-    }
-}
-
-// The same call for programs in other languages, with its answer as one number.
-#[no_mangle]
-pub extern "C" fn seatpomelo_spread(reading: u64, weights: &[i64], out: &mut [i64]) -> u8
-    ensures { λ r. ⌜ r ≡ number-of (spread reading (now (weights .entry)) (now (out .entry)) .verdict) ⌝ }
-    ensures { λ r. ⌜ now (out .exit) ≡ spread reading (now (weights .entry)) (now (out .entry)) .buffer ⌝ }
-{
-    number_of_answer(spread(reading, weights, out))
 }

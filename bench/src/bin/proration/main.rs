@@ -13,7 +13,7 @@ const PARTIES: [usize; 3] = [5, 64, 366];
 const CASES: usize = 256;
 const ROUNDS: usize = 400;
 
-type Split = fn(i64, &[u64], &[u64], &mut [i64]) -> Result<(), u64>;
+type Split = fn(i64, &[u64], &[u64], &mut [i64]) -> Result<(), u8>;
 
 fn main() {
     let mut random = Random::new(88_172_645_463_325_252);

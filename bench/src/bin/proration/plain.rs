@@ -2,13 +2,29 @@
 
 use std::cmp::Reverse;
 
-pub fn split(amount: i64, weights: &[u64], keys: &[u64], shares: &mut [i64]) -> Result<(), u64> {
+/// Whether no two keys are alike: only a key whose bucket is taken is searched among those before it.
+fn distinct(keys: &[u64]) -> bool {
+    let mut marked = [false; 1024];
+    for (i, &key) in keys.iter().enumerate() {
+        let bucket = (key % 1024) as usize;
+        if marked[bucket] && keys[..i].contains(&key) {
+            return false;
+        }
+        marked[bucket] = true;
+    }
+    true
+}
+
+pub fn split(amount: i64, weights: &[u64], keys: &[u64], shares: &mut [i64]) -> Result<(), u8> {
     let parties = weights.len();
     let size = amount.unsigned_abs();
-    if size > 1_000_000_000 || parties == 0 || parties > 366 || keys.len() < parties {
+    if size > 1_000_000_000 || parties == 0 || parties > 366 || keys.len() != parties {
         return Err(2);
     }
     if weights.iter().any(|&weight| weight > 2_000_000_000) {
+        return Err(2);
+    }
+    if !distinct(keys) {
         return Err(2);
     }
     if shares.len() < parties {

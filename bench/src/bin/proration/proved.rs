@@ -1,12 +1,13 @@
 //! The proved library, as a Rust program calls it.
 
-#[path = "../../../../include/split.rs"]
-mod split;
+#[path = "../../../../include/seatpomelo.rs"]
+#[allow(dead_code)]
+mod seatpomelo;
 
-use split::seatpomelo_split;
+use seatpomelo::seatpomelo_split;
 
 /// The shares of the amount, or document 01's number of the refusal. Any arguments will do: the call tests them itself.
-pub fn split(amount: i64, weights: &[u64], keys: &[u64], shares: &mut [i64]) -> Result<(), u64> {
+pub fn split(amount: i64, weights: &[u64], keys: &[u64], shares: &mut [i64]) -> Result<(), u8> {
     // SAFETY: each pointer comes with the length of its slice, and the slices live through the call.
     let answer = unsafe {
         seatpomelo_split(

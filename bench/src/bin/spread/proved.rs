@@ -1,9 +1,10 @@
 //! The proved library, as a Rust program calls it.
 
-#[path = "../../../../include/spread.rs"]
-mod spread;
+#[path = "../../../../include/seatpomelo.rs"]
+#[allow(dead_code)]
+mod seatpomelo;
 
-use spread::seatpomelo_spread;
+use seatpomelo::seatpomelo_spread;
 
 /// A share for each day, or document 01's number of the refusal. Any arguments will do: the call tests them itself.
 pub fn spread(reading: u64, weights: &[i64], out: &mut [i64]) -> Result<(), u8> {

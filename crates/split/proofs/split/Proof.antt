@@ -1,12 +1,12 @@
--- `split::seatpomelo_split` meets its contract. Assumes nothing.
+-- `split::split` meets its contract. Assumes nothing.
 use mathlib.Core.Path.{sym, _∙_}
 use mir.Facts.{toZ-ofZ}
 use borrow.Author.Tests.{not-true, not-false}
 use Rattle.split.proofs.Call.{ranged, refused, too-short, done}
 use native.Mathlib.Omega.{arith}
 use borrow.Author.Needs.{needs}
-use Rattle.split.proofs.seatpomelo_split.Statement.{statement}
-use Rattle.split.proofs.seatpomelo_split.Tie as tie
+use Rattle.split.proofs.split.Statement.{statement}
+use Rattle.split.proofs.split.Tie as tie
 
 in-range-requires : tie.Need-in-range-requires
 in-range-requires c κs = search needs
@@ -33,8 +33,8 @@ same-length c = search needs
 returns-3 : tie.Need-returns-3
 returns-3 c = done (c .before .before .before .before .before .before .before .before .before .args .amount) (c .before .before .before .before .before .before .before .before .before .args .ws .now) (c .before .before .before .before .before .before .before .before .before .args .keys .now) (c .before .before .before .before .before .before .before .before .before .args .out .now) (sym (rw (toZ-ofZ (c .before .before .before .before .before .before .before .before .before .fits .amount)) at (c .before .before .before .before .before .before .in-range .ensures)) ∙ not-false _ (c .before .before .before .before .before .if1 .left)) (c .before .before .before .before .if2 .left) (rw (toZ-ofZ (c .before .before .before .before .before .before .before .before .before .fits .amount)) at (c .before .prorate-signed .ensures))
 
-pub seatpomelo-split-spec : {M : Type 1} → statement M
-seatpomelo-split-spec =
+pub split-spec : {M : Type 1} → statement M
+split-spec =
     tie.close
     (tie.spec
     in-range-requires
