@@ -1,20 +1,19 @@
 -- Amounts place by place, against tests of every element; sums of amounts that are not negative. Assumes nothing.
 use mathlib.Core.Path.{_≡_, refl}
 use mathlib.Core.Bool.{true, false}
-use mathlib.Core.List.{List, [], _∷_, map}
+use mathlib.Core.List.{List}
 use mathlib.Core.Logic.{⊎-elim}
-use Prim.Native.Nat.{ℕ, zero, suc, _-_, _*_, _≤_, _<_}
+use Prim.Native.Nat.{ℕ, zero, suc, _≤_, _<_}
 use native.Mathlib.Omega.{arith}
-use native.Mathlib.Nat.{suc-mul}
 use lib.IntN.{ℤ, pos, negsuc, negℤ, natAbs}
 use lib.Signed.{ltZ, leZ}
 use lib.ListN.{length, List·getD-eq-default}
 use borrow.Author.Tests.{eqb-true, eq-eqb, leb-true, leb-false, ltb-false, le-ltb}
-use Rattle.numbers.specs.Sums.{atZ, total, totalZ}
+use Rattle.numbers.specs.Sums.{atZ}
 use Rattle.numbers.specs.Amounts.{Within, Between, Decides, is-negative}
 use Rattle.numbers.proofs.Sums.{lt-or-ge}
-use Rattle.numbers.proofs.Lists.{All, true≢false}
-use Rattle.numbers.proofs.Amounts.{NonNeg, sum-nonneg, between}
+use Rattle.numbers.proofs.Lists.{true≢false}
+use Rattle.numbers.proofs.Amounts.{between}
 use Rattle.point_day.specs.Limits.{AMOUNT}
 use Rattle.point_day.specs.Day.{is-zero}
 use Rattle.state.specs.Places.{From}
@@ -58,21 +57,6 @@ within-from m xs h k l i = record {
 
 pub low-from : (m : ℕ) (xs : List ℤ) → From 0 (pos 0) (pos m) xs → (k : ℕ) → m ≤ k → (i : ℕ) → Within k (atZ xs i)
 low-from m xs h k l i = within-from m xs (λ i n q. low-size m (atZ xs i) (h i n q)) k l i
-
--- ---- the sum of amounts that are not negative
-
-signs : (m : ℕ) (xs : List ℤ) → From 0 (pos 0) (pos m) xs → All NonNeg xs
-signs m [] h = tt
-signs m (x ∷ xs) h = (between-sign x (h 0 (omega arith) (omega arith)), signs m xs (λ i l q. h (suc i) (omega arith) (omega arith)))
-
-pub nonneg-total : (m : ℕ) (xs : List ℤ) → From 0 (pos 0) (pos m) xs → totalZ xs ≡ pos (total (map natAbs xs))
-nonneg-total m xs h = sum-nonneg xs (signs m xs h)
-
-pub total-le : (m : ℕ) (xs : List ℤ) → From 0 (pos 0) (pos m) xs → total (map natAbs xs) ≤ length xs * m
-unfolding total
-total-le m [] h = omega arith
-total-le m (x ∷ xs) h =
-    omega (arith, low-size m x (h 0 (omega arith) (omega arith)), total-le m xs (λ i l q. h (suc i) (omega arith) (omega arith)), suc-mul (length xs) m)
 
 -- an amount that is not negative is at most m
 pub at-most : (m : ℕ) (z : ℤ) → ltZ z (pos 0) ≡ false → Decides (leZ z (pos m)) (Between (pos 0) (pos m) z)

@@ -12,14 +12,14 @@ use borrow.Author.Tests.{ltb-true, leb-true, leb-false, le-ltb}
 use mir.Syntax.{w64}
 use mir.Val.{ofZ, toZ, SFits}
 use mir.Facts.{toZ-pos}
-use Rattle.numbers.specs.Sums.{atZ}
+use Rattle.numbers.specs.Sums.{sumZ, atZ}
 use Rattle.numbers.specs.Amounts.{Within, Between, Decides}
 use Rattle.numbers.proofs.Sums.{lt-or-ge}
 use Rattle.numbers.proofs.Lists.{true≢false, never, passed}
 use Rattle.numbers.proofs.Amounts.{widen, within-add, within-first}
 use Rattle.numbers.proofs.Bits.{Gathered, gather, amount-bits}
 use Rattle.point_day.specs.Limits.{KINDS}
-use Rattle.state.specs.Places.{ROOM, LOW, LowSlot, offtake-at}
+use Rattle.state.specs.Places.{ROOM, LOW, LowSlot, SizedSlot, offtake-at, balance-at}
 use Rattle.state.proofs.Cells.{low-size}
 
 -- the kinds of slot s from 0 up to n
@@ -70,3 +70,17 @@ module _ (cs ls : List ℤ) (s : ℕ) (h : LowSlot cs ls s) where
 
   pub offtake-within : Within (10 * ROOM) (offtake-at cs ls s)
   offtake-within = widen (within-first (2 * ROOM) (λ k. atZ cs (KINDS * s + k) +ℤ atZ ls (KINDS * s + k)) KINDS kind-within) (omega arith)
+
+-- balances and revision of a sized slot are small, and their sum is
+module _ (bs rs : List ℤ) (s : ℕ) (h : SizedSlot bs rs s) where
+  pub balance-within : (k : ℕ) → k < KINDS → Within ROOM (atZ bs (KINDS * s + k))
+  balance-within k l = record { size = omega (arith, h .balance k (omega arith) l) }
+
+  pub revision-within : Within ROOM (atZ rs s)
+  revision-within = record { size = omega (arith, h .revision) }
+
+  pub balances-within : Within (5 * ROOM) (sumZ (λ k. atZ bs (KINDS * s + k)) KINDS)
+  balances-within = within-first ROOM (λ k. atZ bs (KINDS * s + k)) KINDS balance-within
+
+  pub user-balance-within : Within (6 * ROOM) (balance-at bs rs s)
+  user-balance-within = widen (within-add balances-within revision-within) (omega arith)

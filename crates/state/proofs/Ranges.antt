@@ -1,19 +1,13 @@
 -- Sums of small amounts stay in 64 bits. Assumes nothing.
 use mathlib.Core.Path.{_≡_, ap, ap₂, _∙_}
 use mathlib.Core.List.{List}
-use mathlib.Core.Logic.{⊎-elim}
-use Prim.Native.Nat.{ℕ, _+_, _*_, _^_, _≤_, _<_}
+use Prim.Native.Nat.{ℕ, _+_, _*_, _^_, _<_}
 use native.Mathlib.Omega.{arith}
-use native.Mathlib.Nat.{mul-le-mul-right}
 use lib.Dec.{T}
-use lib.ListN.{length, List·getD-eq-default}
 use lib.IntN.{ℤ, pos, natAbs, _+ℤ_}
 use lib.Signed.{nonNeg}
 use mir.Syntax.{w64}
 use mir.Val.{ofZ, toZ, SFits, Fits}
-use Rattle.numbers.specs.Sums.{sumZ, table, atZ, totalZ}
-use Rattle.numbers.proofs.Sums.{lt-or-ge, length-table, getD-table, totalZ-sum}
-use Rattle.point_day.specs.Limits.{USERS}
 use Rattle.numbers.specs.Amounts.{Within}
 use Rattle.numbers.proofs.Amounts.{back, sfits, widen, within-add, within-pos, within-sum}
 use Rattle.state.specs.Places.{ROOM, Small, cellZ, whole-at}
@@ -52,18 +46,3 @@ module _ (a b : ℕ) (l : a < 2 ^ 62) (k : b < 2 ^ 62) {x y : ℤ} (e : x ≡ po
 
   pub added-cast : T (nonNeg (toZ w64 (ofZ w64 (toZ w64 (ofZ w64 x) +ℤ toZ w64 (ofZ w64 y))))) × Fits w64 (natAbs (toZ w64 (ofZ w64 (toZ w64 (ofZ w64 x) +ℤ toZ w64 (ofZ w64 y)))))
   added-cast = rw added-is (tt, record { fits = omega arith })
-
--- the sum of whole amounts, as the code holds it
-pub sum-back : (xs : List ℤ) → length xs ≤ USERS → ((i : ℕ) → Within 1000000000000 (atZ xs i)) → {r : ℤ} → r ≡ totalZ xs → toZ w64 (ofZ w64 r) ≡ sumZ (atZ xs) (length xs)
-sum-back xs l h e =
-    ap (λ z. toZ w64 (ofZ w64 z)) (e ∙ totalZ-sum xs)
-    ∙ back (within-sum 1000000000000 (atZ xs) h (length xs)) (omega (arith, mul-le-mul-right 1000000000000 l))
-
--- whole amounts that stand in a buffer
-pub table-within : (f : ℕ → ℤ) (n : ℕ) (xs : List ℤ) → xs ≡ table f n → ((s : ℕ) → Within (16 * ROOM) (f s)) → (i : ℕ) → Within 1000000000000 (atZ xs i)
-table-within f n xs e h i =
-    rw e
-    (⊎-elim
-    (λ l. rw (getD-table f n i (pos 0) l) (widen (h i) (omega arith)))
-    (λ l. rw (List·getD-eq-default (table f n) (pos 0) {n = i} (omega (arith, length-table f n))) (record { size = omega arith }))
-    (lt-or-ge i n))

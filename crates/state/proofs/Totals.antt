@@ -15,11 +15,11 @@ use Rattle.numbers.proofs.Sums.{total-append, totalZ-sum, totalZ-table, sumZ-eq
 use Rattle.numbers.proofs.Lists.{All, both-fst, both-snd, map-append}
 use Rattle.numbers.proofs.Amounts.{NonNeg, sum-nonneg, exchange}
 use Rattle.point_day.specs.Limits.{USERS, KINDS}
-use Rattle.point_day.specs.Day.{User, all-offtake, whole, all-whole, is-zero}
+use Rattle.point_day.specs.Day.{User, offtake, all-offtake, whole, all-whole, is-zero}
 use Rattle.point_day.specs.Struct.{Sized, kinds-of, user-at, read, none-past, none-below}
 use Rattle.point_day.specs.declared.PointDay.{PointDay}
 use Rattle.point_day.proofs.Back.{map-table, every-take, every-drop}
-use Rattle.state.specs.Places.{whole-at}
+use Rattle.state.specs.Places.{offtake-at, balance-at, whole-at}
 
 -- ---- sizes of an array's amounts
 
@@ -88,6 +88,20 @@ unfolding sumZ
 sumZ-both f g zero = refl
 sumZ-both f g (suc n) = ap (λ t. t +ℤ (f n +ℤ g n)) (sumZ-both f g n) ∙ exchange (sumZ f n) (sumZ g n) (f n) (g n)
 
+-- consumption and losses, and balances with revision, are a whole amount
+pub whole-parts : (cs ls bs rs : List ℤ) (s : ℕ) → offtake-at cs ls s +ℤ balance-at bs rs s ≡ whole-at cs ls bs rs s
+whole-parts cs ls bs rs s =
+    let O : ℕ → ℤ = λ k. atZ cs (KINDS * s + k) +ℤ atZ ls (KINDS * s + k) in
+    let B : ℕ → ℤ = λ k. atZ bs (KINDS * s + k) in
+    sym (+ℤ-assoc (sumZ O KINDS) (sumZ B KINDS) (atZ rs s)) ∙ ap (λ t. t +ℤ atZ rs s) (sym (sumZ-both O B KINDS))
+
+pos-total : (f : ℕ → ℕ) (n : ℕ) → pos (total (table f n)) ≡ sumZ (λ s. pos (f s)) n
+unfolding table total sumZ
+pos-total f zero = refl
+pos-total f (suc n) =
+    let one : total (table f n ++ (f n ∷ [])) ≡ total (table f n) + f n = omega (arith, total-append (table f n) (f n ∷ [])) in
+    ap pos one ∙ ap (λ t. t +ℤ pos (f n)) (pos-total f n)
+
 module _ (d : PointDay) (z : Sized d) (c : none-below (d .consumption) ≡ true) (l : none-below (d .losses) ≡ true) where
   at-slot : ℕ → ℤ
   at-slot s = whole-at (d .consumption) (d .losses) (d .balance) (d .revision) s
@@ -111,3 +125,16 @@ module _ (d : PointDay) (z : Sized d) (c : none-below (d .consumption) ≡ true)
       ap totalZ (map-table whole (user-at d) (d .count))
       ∙ totalZ-table (λ s. whole (user-at d s)) (d .count)
       ∙ sumZ-eq (λ s. whole (user-at d s)) (whole-at (d .consumption) (d .losses) (d .balance) (d .revision)) (d .count) (λ i q. whole-is i (omega arith))
+
+  offtake-slot : (s : ℕ) → s < USERS → pos (offtake (user-at d s)) ≡ offtake-at (d .consumption) (d .losses) s
+  unfolding user-at
+  offtake-slot s m =
+      ap₂ _+ℤ_ (kinds-sizes (d .consumption) s c ∙ kinds-sum (d .consumption) s (omega (arith, z .consumption))) (kinds-sizes (d .losses) s l ∙ kinds-sum (d .losses) s (omega (arith, z .losses)))
+      ∙ sym (sumZ-both (λ k. atZ (d .consumption) (KINDS * s + k)) (λ k. atZ (d .losses) (KINDS * s + k)) KINDS)
+
+  pub offtakes-are : d .count ≤ USERS → sumZ (offtake-at (d .consumption) (d .losses)) (d .count) ≡ pos (all-offtake (read d .users))
+  unfolding read
+  offtakes-are m =
+      sym (ap (λ t. pos (total t)) (map-table offtake (user-at d) (d .count))
+      ∙ pos-total (λ s. offtake (user-at d s)) (d .count)
+      ∙ sumZ-eq (λ s. pos (offtake (user-at d s))) (offtake-at (d .consumption) (d .losses)) (d .count) (λ i q. offtake-slot i (omega arith)))

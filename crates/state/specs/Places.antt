@@ -3,12 +3,12 @@ use mathlib.Core.Bool.{true, false}
 use mathlib.Core.List.{List}
 use mathlib.Core.Path.{_≡_}
 use Prim.Native.Nat.{ℕ, _+_, _*_, _≤_, _<_}
-use lib.IntN.{ℤ, pos, _+ℤ_}
+use lib.IntN.{ℤ, pos, natAbs, _+ℤ_}
 use lib.ListN.{length, take, getD}
 use Rattle.numbers.specs.Sums.{sumZ, atZ}
 use Rattle.numbers.specs.Lists.{has}
 use Rattle.numbers.specs.Amounts.{Within, Between}
-use Rattle.point_day.specs.Limits.{KINDS, USERS, CELLS}
+use Rattle.point_day.specs.Limits.{KINDS, USERS, CELLS, AMOUNT}
 use Rattle.point_day.specs.Struct.{none-below}
 use Rattle.point_day.specs.declared.PointDay.{PointDay}
 
@@ -37,6 +37,11 @@ LOW = 8589934591
 abbrev pub LowSlot : List ℤ → List ℤ → ℕ → Type 0
 LowSlot cs ls s = (k : ℕ) → 0 ≤ k → k < KINDS → Between (pos 0) (pos LOW) (atZ cs (KINDS * s + k)) × Between (pos 0) (pos LOW) (atZ ls (KINDS * s + k))
 
+-- balances and revision of slot s are at most AMOUNT in size
+pub record SizedSlot (bs rs : List ℤ) (s : ℕ) : Type 0 where
+  pub balance : (k : ℕ) → 0 ≤ k → k < KINDS → natAbs (atZ bs (KINDS * s + k)) ≤ AMOUNT
+  pub revision : natAbs (atZ rs s) ≤ AMOUNT
+
 -- lists as long as a point-day's arrays
 pub record Lengths (cs ls bs rs : List ℤ) : Type 0 where
   pub consumption : length cs ≡ CELLS
@@ -61,6 +66,10 @@ cellZ cs ls bs i = (atZ cs i +ℤ atZ ls i) +ℤ atZ bs i
 -- consumption and losses of slot s
 abbrev pub offtake-at : List ℤ → List ℤ → ℕ → ℤ
 offtake-at cs ls s = sumZ (λ k. atZ cs (KINDS * s + k) +ℤ atZ ls (KINDS * s + k)) KINDS
+
+-- balances and revision of slot s
+abbrev pub balance-at : List ℤ → List ℤ → ℕ → ℤ
+balance-at bs rs s = sumZ (λ k. atZ bs (KINDS * s + k)) KINDS +ℤ atZ rs s
 
 -- the whole amount of slot s
 abbrev pub whole-at : List ℤ → List ℤ → List ℤ → List ℤ → ℕ → ℤ

@@ -1,15 +1,16 @@
 // What all calls ask of a point-day: a user's slot, its sums and whole amounts, its stage and measurement.
 ghost use mathlib.Core.Path.{_≡_};
 ghost use mathlib.Core.Bool.{true};
-ghost use mathlib.Core.List.{map, _++_};
-ghost use Prim.Native.Nat.{_+_, _≤_, _<_};
-ghost use lib.IntN.{pos, natAbs, _+ℤ_};
-ghost use lib.ListN.{length, drop, replicate};
-ghost use Rattle.numbers.specs.Sums.{table, total, atZ};
+ghost use mathlib.Core.List.{_++_};
+ghost use Prim.Native.Nat.{_≤_, _<_};
+ghost use lib.IntN.{pos, _+ℤ_};
+ghost use lib.ListN.{length, drop};
+ghost use Rattle.numbers.specs.Sums.{table, atZ};
 ghost use Rattle.numbers.specs.Amounts.{Within, Decides};
 ghost use Rattle.point_day.specs.Limits.{USERS, CELLS, LIMIT};
 ghost use Rattle.point_day.specs.Day.{is-measured, net-of, emission-right, measurement-right, provisional};
-ghost use Rattle.state.specs.Places.{Placed, From, ROOM, Small, Lengths, LowSlot, cellZ, offtake-at, whole-at};
+ghost use Rattle.state.specs.Places.{Placed, ROOM, Small, Lengths, LowSlot, SizedSlot, cellZ, offtake-at, balance-at, whole-at};
+use point_day::AMOUNT;
 use point_day::KINDS;
 use point_day::LIMIT;
 use point_day::Measurement;
@@ -29,14 +30,6 @@ pub fn slot_of(users: &[u16], count: usize, user: u16) -> usize
         i += 1;
     }
     i
-}
-
-// All consumption and losses.
-pub fn offtake<'a>(consumption: &'a [i64], losses: &'a [i64]) -> u64
-    requires { ⌜ From 0 (pos 0) (pos LIMIT) (now consumption) × From 0 (pos 0) (pos LIMIT) (now losses) × (length (now consumption) ≡ CELLS) × (length (now losses) ≡ CELLS) ⌝ }
-    ensures { λ r. ⌜ r ≡ total (map natAbs (now (consumption .entry))) + total (map natAbs (now (losses .entry))) ⌝ }
-{
-    (numbers::sum_of(consumption) + numbers::sum_of(losses)) as u64
 }
 
 // The greatest amount of which all sums fit well into 64 bits, and whose bits are all ones.
@@ -79,6 +72,35 @@ pub fn user_offtake<'a>(consumption: &'a [i64], losses: &'a [i64], slot: usize) 
         k += 1;
     }
     sum
+}
+
+// Whether a user's balances and its revision are at most 2,000,000,000 in size.
+pub fn user_sized<'a>(balance: &'a [i64], revision: &'a [i64], slot: usize) -> bool
+    requires { ⌜ (slot < USERS) × (length (now balance) ≡ CELLS) × (length (now revision) ≡ USERS) ⌝ }
+    ensures { λ r. ⌜ Decides r (SizedSlot (now (balance .entry)) (now (revision .entry)) slot) ⌝ }
+{
+    let mut k = 0;
+    while k < KINDS {
+        if !numbers::size_at_most(balance[KINDS * slot + k], AMOUNT) {
+            return false;
+        }
+        k += 1;
+    }
+    numbers::size_at_most(revision[slot], AMOUNT)
+}
+
+// A user's balances and revision.
+pub fn user_balance<'a>(balance: &'a [i64], revision: &'a [i64], slot: usize) -> i64
+    requires { ⌜ (slot < USERS) × SizedSlot (now balance) (now revision) slot × (length (now balance) ≡ CELLS) × (length (now revision) ≡ USERS) ⌝ }
+    ensures { λ r. ⌜ r ≡ balance-at (now (balance .entry)) (now (revision .entry)) slot ⌝ }
+{
+    let mut sum: i64 = 0;
+    let mut k = 0;
+    while k < KINDS {
+        sum = sum + balance[KINDS * slot + k];
+        k += 1;
+    }
+    sum + revision[slot]
 }
 
 // Consumption, losses and balance of a cell.

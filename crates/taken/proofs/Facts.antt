@@ -1,4 +1,4 @@
--- A point-day is taken if and only if each test of the code holds. Assumes nothing.
+-- What a taken point-day has, place by place. Assumes nothing.
 use mathlib.Core.Path.{_≡_, refl, sym, ap, _∙_}
 use mathlib.Core.Bool.{Bool, true, false, not}
 use mathlib.Core.List.{List, [], _∷_, _++_, map}
@@ -11,35 +11,46 @@ use lib.ListN.{length, getD, take, drop, List·getD-map}
 use lib.Seq.{getD-take, getD-drop, take-at}
 use mir.Syntax.{w64}
 use mir.Val.{ofZ, toZ}
-use borrow.Author.Tests.{le-leb, leb-true, eqb-true, eq-eqb, not-true, not-false}
-use Rattle.numbers.specs.Sums.{sumZ, table, at, atZ, total, totalZ}
+use borrow.Author.Tests.{le-leb, leb-true, eqb-true, not-true, not-false}
+use Rattle.numbers.specs.Sums.{sumZ, table, at, atZ, total}
 use Rattle.numbers.specs.Lists.{every, has, distinct}
 use Rattle.numbers.specs.Amounts.{Within, Between, Decides, is-negative}
 use Rattle.numbers.proofs.Amounts.{back}
-use Rattle.numbers.proofs.Places.{every-at, at-every, every-from, from-every}
-use Rattle.numbers.proofs.Sums.{lt-or-ge, length-table, getD-table, table-take, at-total, sumZ-eq, totalZ-table}
-use Rattle.numbers.proofs.Lists.{true≢false, never, both-fst, both-snd, both-true, every-all, all-table}
+use Rattle.numbers.proofs.Places.{every-at, at-every, every-from}
+use Rattle.numbers.proofs.Sums.{lt-or-ge, length-table, getD-table, table-take, at-total}
+use Rattle.numbers.proofs.Lists.{true≢false, both-fst, both-snd, both-true, every-all, all-table}
 use Rattle.point_day.specs.Limits.{USERS, CELLS, KINDS, LIMIT, AMOUNT}
-use Rattle.point_day.specs.Day.{User, numbers, all-offtake, whole, all-whole, is-measured, some, no-more, is-zero, measurement-right, too-large}
+use Rattle.point_day.specs.Day.{User, numbers, all-offtake, whole, all-whole, some, no-more, is-zero, measurement-right, too-large}
 use Rattle.point_day.specs.Struct.{Sized, kinds-of, user-at, read, none-past, none-below, unallotted, amounts-right, sum-right, taken}
 use Rattle.point_day.specs.declared.Measurement.{Measurement}
 use Rattle.point_day.specs.declared.PointDay.{PointDay}
-use Rattle.point_day.proofs.Taken.{Past, Taken, taken-facts, facts-taken}
+use Rattle.point_day.proofs.Taken.{Taken, taken-facts}
 use Rattle.point_day.proofs.Sound.{bare-all, taken-sound}
 use Rattle.point_day.proofs.Back.{map-table, every-take, every-drop}
 use Rattle.state.specs.Places.{From, ROOM, Small, Summable, Lengths, whole-at}
 use Rattle.state.proofs.Cells.{zero-between, between-zero, between-sign, low-size, nonneg-between, between-size, size-between, within-from, low-from}
 use Rattle.state.proofs.Totals.{kinds-long, offtake-is, whole-is, wholes-are}
-use Rattle.taken.specs.Ranges.{Cells, Arrays, Wholes}
 use Rattle.point_day.specs.Fields.{point-day}
 use Rattle.taken.specs.Standing.{Stands}
-use Rattle.taken.specs.Tested.{any-large}
+use Rattle.taken.specs.Tested.{Wholes, any-large}
 use Rattle.point_day.specs.declared.Stage.{Stage}
+
+-- every amount in low .. high, and 0 from place n on
+pub record Cells (low high : ℤ) (n : ℕ) (xs : List ℤ) : Type 0 where
+  pub range : From 0 low high xs
+  pub rest : From n (pos 0) (pos 0) xs
+
+-- the four arrays of n users
+pub record Arrays (n : ℕ) (cs ls bs rs : List ℤ) : Type 0 where
+  pub consumption : Cells (pos 0) (pos LIMIT) (KINDS * n) cs
+  pub losses : Cells (pos 0) (pos LIMIT) (KINDS * n) ls
+  pub balance : Cells (negℤ (pos AMOUNT)) (pos AMOUNT) (KINDS * n) bs
+  pub revision : Cells (negℤ (pos AMOUNT)) (pos AMOUNT) n rs
 
 abbrev pub wholes-of : PointDay → ℕ → ℤ
 wholes-of d = whole-at (d .consumption) (d .losses) (d .balance) (d .revision)
 
--- what the code tests
+-- what a taken point-day has, place by place
 pub record Facts (d : PointDay) : Type 0 where
   pub few : d .count ≤ USERS
   pub past : (i : ℕ) → d .count ≤ i → i < length (d .users) → getD (d .users) i 0 ≡ 0
@@ -68,7 +79,7 @@ pub all-users : (d : PointDay) (p : User → Bool) → ((s : ℕ) → s < d .cou
 unfolding read
 all-users d p h = every-all p (table (user-at d) (d .count)) (all-table (λ u. p u ≡ true) (user-at d) (d .count) h)
 
-some-users : (d : PointDay) → (d .count ≡ 0 → ⊥) → some (read d .users) ≡ true
+pub some-users : (d : PointDay) → (d .count ≡ 0 → ⊥) → some (read d .users) ≡ true
 unfolding read
 some-users d h = go (table (user-at d) (d .count)) (length-table (user-at d) (d .count))
   where
@@ -110,69 +121,7 @@ bare d z f b s l =
     (slot-cells is-zero (d .balance) s (at-every is-zero (pos 0) (d .balance) (λ i m. between-zero (atZ (d .balance) i) (b .0 i (omega arith) m))))
     (between-zero (atZ (d .revision) s) (b .1 s (omega arith) (omega (arith, z .revision))))
 
--- ---- from the code's tests to the sentence
-
-module _ (d : PointDay) (z : Sized d) (f : Facts d) where
-  nothing-past : {low high : ℤ} (n : ℕ) (xs : List ℤ) → Cells low high n xs → none-past n xs ≡ true
-  nothing-past n xs h = from-every is-zero (pos 0) n xs (λ i l m. between-zero (atZ xs i) (h .rest i l m))
-
-  sizes-right : (n : ℕ) (xs : List ℤ) → Cells (negℤ (pos AMOUNT)) (pos AMOUNT) n xs → every (no-more AMOUNT) xs ≡ true
-  sizes-right n xs h = at-every (no-more AMOUNT) (pos 0) xs (λ i l. le-leb (natAbs (atZ xs i)) AMOUNT (between-size (atZ xs i) (h .range i (omega arith) l)))
-
-  consumption-right : none-below (d .consumption) ≡ true
-  consumption-right = signs-right (d .consumption) (f .arrays .consumption .range)
-
-  losses-right : none-below (d .losses) ≡ true
-  losses-right = signs-right (d .losses) (f .arrays .losses .range)
-
-  past-right : Past d
-  past-right = record {
-    users = from-every (λ n. eqb n 0) 0 (d .count) (d .users) (λ i l m. eq-eqb (getD (d .users) i 0) 0 (f .past i l m));
-    consumption = nothing-past (KINDS * d .count) (d .consumption) (f .arrays .consumption);
-    losses = nothing-past (KINDS * d .count) (d .losses) (f .arrays .losses);
-    balance = nothing-past (KINDS * d .count) (d .balance) (f .arrays .balance);
-    revision = nothing-past (d .count) (d .revision) (f .arrays .revision);
-  }
-
-  amounts-are : (s : ℕ) → s < d .count → amounts-right (user-at d s) ≡ true
-  unfolding user-at
-  amounts-are s l =
-      both-true
-      (slot-cells (no-more AMOUNT) (d .balance) s (sizes-right (KINDS * d .count) (d .balance) (f .arrays .balance)))
-      (every-at (no-more AMOUNT) (pos 0) (d .revision) (sizes-right (d .count) (d .revision) (f .arrays .revision)) s (omega (arith, z .revision, f .few)))
-
-  entering-right : (p : Bool) → Stands p (d .count) (d .measurement) (d .balance) (d .revision) → p ≡ false → every unallotted (read d .users) ≡ true
-  entering-right true h e = true≢false e
-  entering-right false h e = all-users d unallotted (bare d z (f .few) h)
-
-  standing-right : (p : Bool) → Stands p (d .count) (d .measurement) (d .balance) (d .revision) → p ≡ true → (some (read d .users) ≡ true) × (is-measured (d .measurement) ≡ true)
-  standing-right true h e = (some-users d (h .0), h .1)
-  standing-right false h e = true≢false (sym e)
-
-  sum-is : (w : ℤ) → Between (pos 0) (pos LIMIT) w → sum-right w ≡ true
-  sum-is w b = both-true (ap not (between-sign w b)) (le-leb (natAbs w) LIMIT (low-size LIMIT w b))
-
-  pub tests-pass : taken d ≡ true
-  tests-pass =
-      facts-taken d
-      record {
-        few = f .few;
-        named = rw (numbers-are d (omega (arith, z .users, f .few))) (f .named);
-        apart = rw (numbers-are d (omega (arith, z .users, f .few))) (f .apart);
-        past = past-right;
-        measurement = f .measurement;
-        consumption = consumption-right;
-        losses = losses-right;
-        offtake = rw (offtake-is d (past-right .consumption) (past-right .losses)) (f .offtake);
-        entering = entering-right (d .allotted) (f .stands);
-        amounts = all-users d amounts-right amounts-are;
-        wholes = ap not (all-users d (λ u. no-more AMOUNT (whole u)) (λ s l.
-            le-leb (natAbs (whole (user-at d s))) AMOUNT (rw (whole-is d z consumption-right losses-right s (omega (arith, f .few))) (f .wholes .each s l))));
-        sum = ap sum-right (wholes-are d z consumption-right losses-right (f .few)) ∙ sum-is (sumZ (wholes-of d) (d .count)) (f .wholes .sum);
-        standing = standing-right (d .allotted) (f .stands);
-      }
-
--- ---- and back
+-- ---- from the sentence to its places
 
 module _ (d : PointDay) (z : Sized d) (t : Taken d) where
   rest-of : (n : ℕ) (xs : List ℤ) → none-past n xs ≡ true → From n (pos 0) (pos 0) xs
@@ -265,22 +214,16 @@ facts d z e = facts-of d z (taken-facts d e)
 pub parts-sized : (stage : Stage) {allotted : Bool} {m : Measurement} {n : ℕ} {us : List ℕ} {cs ls bs rs : List ℤ} → length us ≡ USERS → Lengths cs ls bs rs → Sized (point-day stage allotted m n us cs ls bs rs)
 parts-sized stage u l = record { users = u; consumption = l .consumption; losses = l .losses; balance = l .balance; revision = l .revision }
 
--- ---- what the code's tests say
-
-pub untaken : (d : PointDay) → Sized d → (Facts d → ⊥) → false ≡ taken d
-untaken d z h = go (taken d) refl
+pub untaken : (d : PointDay) → (taken d ≡ true → ⊥) → false ≡ taken d
+untaken d h = go (taken d) refl
   where
     go : (p : Bool) → taken d ≡ p → false ≡ p
-    go true e = absurd (h (facts d z e))
+    go true e = absurd (h e)
     go false e = refl
-
-pub taken-by : (d : PointDay) → Sized d → (r : Bool) → (r ≡ true → Facts d) → (r ≡ false → Facts d → ⊥) → r ≡ taken d
-taken-by d z true y n = sym (tests-pass d z (y refl))
-taken-by d z false y n = untaken d z (n refl)
 
 -- ---- what the calls use
 
-pub small-parts : {n : ℕ} {cs ls bs rs : List ℤ} → Arrays n cs ls bs rs → Small cs × Small ls × Small bs × Small rs
+small-parts : {n : ℕ} {cs ls bs rs : List ℤ} → Arrays n cs ls bs rs → Small cs × Small ls × Small bs × Small rs
 small-parts {cs = cs} {ls = ls} {bs = bs} {rs = rs} a = (
   low-from LIMIT cs (a .consumption .range) ROOM (omega arith),
   low-from LIMIT ls (a .losses .range) ROOM (omega arith),
@@ -288,7 +231,7 @@ small-parts {cs = cs} {ls = ls} {bs = bs} {rs = rs} a = (
   within-from AMOUNT rs (λ i l q. between-size (atZ rs i) (a .revision .range i l q)) ROOM (omega arith),
 )
 
-pub summable-day : (d : PointDay) → Sized d → d .count ≤ USERS → Arrays (d .count) (d .consumption) (d .losses) (d .balance) (d .revision) → Summable d
+summable-day : (d : PointDay) → Sized d → d .count ≤ USERS → Arrays (d .count) (d .consumption) (d .losses) (d .balance) (d .revision) → Summable d
 summable-day d z l a = record {
   few = l;
   consumption = small-parts a .0;
@@ -303,10 +246,6 @@ summable-day d z l a = record {
 module _ (d : PointDay) (z : Sized d) (e : taken d ≡ true) where
   pub taken-summable : Summable d
   taken-summable = summable-day d z (facts d z e .few) (facts d z e .arrays)
-
-  pub taken-sum : (xs : List ℤ) → xs ≡ table (wholes-of d) (d .count) → totalZ xs ≡ all-whole (read d .users)
-  taken-sum xs q =
-      ap totalZ q ∙ totalZ-table (wholes-of d) (d .count) ∙ sym (wholes-are d z (taken-summable .above) (taken-summable .above-losses) (taken-summable .few))
 
   -- as the code holds it
   pub sum-kept : {x : ℤ} → x ≡ all-whole (read d .users) → toZ w64 (ofZ w64 x) ≡ all-whole (read d .users)
@@ -364,39 +303,3 @@ module _ (d : PointDay) (z : Sized d) (l : Summable d) (xs : List ℤ) (e : xs �
 -- the column of the users' whole amounts
 pub any-large-is : (d : PointDay) → Sized d → Summable d → (xs : List ℤ) → xs ≡ table (wholes-of d) (d .count) → any-large xs ≡ too-large (read d .users)
 any-large-is d z l xs e = too-large-by d z l xs e (every (no-more AMOUNT) xs) (sizes-decided xs)
-
-module _ (n : ℕ) (m : Measurement) (bs rs : List ℤ) where
-  pub stands-bare : (p r : Bool) → p ≡ false → Decides r (From 0 (pos 0) (pos 0) bs × From 0 (pos 0) (pos 0) rs) → Decides r (Stands p n m bs rs)
-  stands-bare true r e h = true≢false e
-  stands-bare false r e h = h
-
-  pub stands-none : (p : Bool) → p ≡ true → n ≡ 0 → Decides false (Stands p n m bs rs)
-  stands-none true e h = record { yes = λ t. never t; no = λ t P. P .0 h }
-  stands-none false e h = true≢false (sym e)
-
-  pub stands-if : (p r : Bool) → p ≡ true → (n ≡ 0 → ⊥) → r ≡ is-measured m → Decides r (Stands p n m bs rs)
-  stands-if true r e h q = record { yes = λ t. (h, sym q ∙ t); no = λ t P. true≢false (sym (P .1) ∙ sym q ∙ t) }
-  stands-if false r e h q = true≢false (sym e)
-
--- whole amounts that stand in a buffer
-module _ (n : ℕ) (f : ℕ → ℤ) (xs : List ℤ) (e : xs ≡ table f n) where
-  place : (i : ℕ) → i < n → atZ xs i ≡ f i
-  place i l = ap (λ t. atZ t i) e ∙ getD-table f n i (pos 0) l
-
-  long : length xs ≡ n
-  long = ap length e ∙ length-table f n
-
-  sums : sumZ (atZ xs) (length xs) ≡ sumZ f n
-  sums = ap (sumZ (atZ xs)) long ∙ sumZ-eq (atZ xs) f n place
-
-  pub wholes-table : (r : Bool) → Decides r (Wholes (length xs) (atZ xs)) → Decides r (Wholes n f)
-  wholes-table r h = record {
-    yes = λ t. record {
-      each = λ s l. rw (place s l) at (h .yes t .each s (omega (arith, long)));
-      sum = rw sums at (h .yes t .sum);
-    };
-    no = λ t P. h .no t record {
-      each = λ s l. let q : s < n = omega (arith, long) in rw (place s q) (P .each s q);
-      sum = rw sums (P .sum);
-    };
-  }

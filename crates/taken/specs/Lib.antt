@@ -1,4 +1,3 @@
 pub mod Standing
 pub mod Tested
 pub mod Buckets
-pub mod Ranges

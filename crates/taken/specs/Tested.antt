@@ -1,21 +1,20 @@
 -- What the test of a point-day finds. Assumes nothing.
 use mathlib.Core.Bool.{Bool, true, false, not}
-use mathlib.Core.List.{List, _++_, map}
+use mathlib.Core.List.{List, _++_}
 use mathlib.Core.Path.{_≡_}
-use Prim.Native.Nat.{ℕ, _+_, _*_, _≤_, _<_}
-use lib.IntN.{ℤ, pos, natAbs}
+use Prim.Native.Nat.{ℕ, _*_, _≤_, _<_}
+use lib.IntN.{ℤ, pos, natAbs, _+ℤ_}
 use lib.ListN.{length, take, drop, getD}
 use lib.Signed.{leZ}
-use Rattle.numbers.specs.Sums.{sumZ, table, total}
+use Rattle.numbers.specs.Sums.{sumZ, table, atZ}
 use Rattle.numbers.specs.Lists.{every, has, distinct}
-use Rattle.numbers.specs.Amounts.{Decides}
+use Rattle.numbers.specs.Amounts.{Between, Decides}
 use Rattle.point_day.specs.Limits.{USERS, KINDS, LIMIT, AMOUNT}
 use Rattle.point_day.specs.Day.{all-whole, is-measured, no-more, measurement-right}
 use Rattle.point_day.specs.Struct.{read, taken}
 use Rattle.point_day.specs.declared.Measurement.{Measurement}
 use Rattle.point_day.specs.declared.PointDay.{PointDay}
-use Rattle.state.specs.Places.{From, LowSlot, offtake-at, whole-at}
-use Rattle.taken.specs.Ranges.{Arrays, Wholes}
+use Rattle.state.specs.Places.{From, LowSlot, SizedSlot, offtake-at, balance-at, whole-at}
 use Rattle.taken.specs.declared.StateTest.{StateTest}
 
 -- whether the point-day d is taken; if it is, the sum of its whole amounts, and the column that held `before` starts with them
@@ -51,12 +50,34 @@ pub record Entering (n : ℕ) (cs ls bs rs : List ℤ) : Type 0 where
   pub losses : From (KINDS * n) (pos 0) (pos 0) ls
   pub offtakes : Offtakes n cs ls
 
+-- each of n whole amounts, and their sum
+pub record Wholes (n : ℕ) (f : ℕ → ℤ) : Type 0 where
+  pub each : (s : ℕ) → s < n → natAbs (f s) ≤ AMOUNT
+  pub sum : Between (pos 0) (pos LIMIT) (sumZ f n)
+
+-- slot s of the column ws, with balances and revision added
+abbrev pub added-at : List ℤ → List ℤ → List ℤ → ℕ → ℤ
+added-at ws bs rs s = atZ ws s +ℤ balance-at bs rs s
+
+-- balances and revisions of n users, and the column ws with them added
+pub record Balances (n : ℕ) (ws bs rs : List ℤ) : Type 0 where
+  pub sizes : (s : ℕ) → s < n → SizedSlot bs rs s
+  pub wholes : Wholes n (added-at ws bs rs)
+
+-- nothing past the last of n users
+pub record Ended (n : ℕ) (cs ls bs rs : List ℤ) : Type 0 where
+  pub consumption : From (KINDS * n) (pos 0) (pos 0) cs
+  pub losses : From (KINDS * n) (pos 0) (pos 0) ls
+  pub balance : From (KINDS * n) (pos 0) (pos 0) bs
+  pub revision : From n (pos 0) (pos 0) rs
+
 -- once allotted: with user and measurement
 pub record Allotted (m : Measurement) (n : ℕ) (cs ls bs rs : List ℤ) : Type 0 where
   pub users : n ≡ 0 → ⊥
   pub measured : is-measured m ≡ true
-  pub arrays : Arrays n cs ls bs rs
-  pub offtake : total (map natAbs cs) + total (map natAbs ls) ≤ LIMIT
+  pub past : Ended n cs ls bs rs
+  pub offtakes : Offtakes n cs ls
+  pub sizes : (s : ℕ) → s < n → SizedSlot bs rs s
   pub wholes : Wholes n (whole-at cs ls bs rs)
 
 -- refusal 12, on a column of whole amounts

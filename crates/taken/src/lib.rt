@@ -1,31 +1,32 @@
 // Whether a point-day is taken, and whether a whole amount of it is too large.
-pub mod amount_ranges;
 pub mod user_numbers;
 
 ghost use mathlib.Core.Path.{_≡_};
 ghost use mathlib.Core.Bool.{false};
-ghost use Prim.Native.Nat.{ℕ, _≤_};
+ghost use Prim.Native.Nat.{ℕ, _*_, _≤_, _<_};
 ghost use lib.ListN.{length};
-ghost use Rattle.numbers.specs.Sums.{atZ, totalZ};
+ghost use Rattle.numbers.specs.Sums.{atZ};
 ghost use Rattle.numbers.specs.Amounts.{Within, Decides};
 ghost use Rattle.point_day.specs.Limits.{USERS, CELLS};
 ghost use Rattle.point_day.specs.Day.{measurement-right};
 ghost use Rattle.point_day.specs.Struct.{taken};
-ghost use Rattle.state.specs.Places.{Lengths, offtake-at, whole-at};
-ghost use Rattle.taken.specs.Ranges.{Wholes};
+ghost use Rattle.state.specs.Places.{ROOM, Lengths, offtake-at, whole-at};
 ghost use Rattle.point_day.specs.Fields.{point-day};
-ghost use Rattle.taken.specs.Tested.{TestedState, Found, Head, Offtakes, Entering, Allotted, any-large};
+ghost use Rattle.taken.specs.Tested.{TestedState, Found, Head, Ended, Offtakes, Balances, Entering, Allotted, added-at, any-large};
 ghost use Rattle.point_day.specs.declared.Stage.{Stage};
-use amount_ranges::GREATEST;
-use amount_ranges::LEAST;
+use point_day::AMOUNT;
 use point_day::CELLS;
 use point_day::KINDS;
 use point_day::LIMIT;
 use point_day::Measurement;
 use point_day::USERS;
 
-// The greatest sum.
+// The greatest sum, and the least and the greatest whole amount.
 const SUM: i64 = LIMIT as i64;
+
+const LEAST: i64 = 0 - (AMOUNT as i64);
+
+const GREATEST: i64 = AMOUNT as i64;
 
 // Whether the measurement is in range.
 fn measurement_right(measurement: Measurement) -> bool
@@ -124,7 +125,63 @@ fn entering_test<'a>(
     offtakes_test(consumption, losses, n, wholes)
 }
 
-// The amounts of n users once allotted: each number first, then sums, so that nothing overflows on any values.
+// Balances and revisions of n users, added to a column of consumption and losses: each is tested before it is added.
+fn balances_test<'a>(
+    balance: &'a [i64],
+    revision: &'a [i64],
+    n: usize,
+    wholes: &mut [i64],
+) -> StateTest
+    requires { ⌜ (n ≤ USERS) × (length (now balance) ≡ CELLS) × (length (now revision) ≡ USERS) × (length (now wholes) ≡ USERS) × ((s : ℕ) → s < n → Within (10 * ROOM) (atZ (now wholes) s)) ⌝ }
+    ensures { λ r. ⌜ Found (Balances n (now (wholes .entry)) (now (balance .entry)) (now (revision .entry))) (added-at (now (wholes .entry)) (now (balance .entry)) (now (revision .entry))) n (now (wholes .entry)) r (now (wholes .exit)) ⌝ }
+{
+    let mut sum: i64 = 0;
+    let mut s = 0;
+    while s < n {
+        if !state::user_sized(balance, revision, s) {
+            return untaken();
+        }
+        let whole = numbers::plus(wholes[s], state::user_balance(balance, revision, s));
+        if !numbers::size_at_most(whole, AMOUNT) {
+            return untaken();
+        }
+        wholes[s] = whole;
+        sum = sum + whole;
+        s += 1;
+    }
+    if sum < 0 {
+        return untaken();
+    }
+    StateTest {
+        taken: sum <= SUM,
+        sum: sum,
+    }
+}
+
+// Whether nothing stands past the last of n users.
+fn none_past<'a>(
+    consumption: &'a [i64],
+    losses: &'a [i64],
+    balance: &'a [i64],
+    revision: &'a [i64],
+    n: usize,
+) -> bool
+    requires { ⌜ n ≤ USERS ⌝ }
+    ensures { λ r. ⌜ Decides r (Ended n (now (consumption .entry)) (now (losses .entry)) (now (balance .entry)) (now (revision .entry))) ⌝ }
+{
+    if !numbers::all_zero(consumption, KINDS * n) {
+        return false;
+    }
+    if !numbers::all_zero(losses, KINDS * n) {
+        return false;
+    }
+    if !numbers::all_zero(balance, KINDS * n) {
+        return false;
+    }
+    numbers::all_zero(revision, n)
+}
+
+// The amounts of n users once allotted: whole amounts are consumption and losses, and then balances and revision.
 fn allotted_test<'a>(
     measurement: Measurement,
     n: usize,
@@ -143,25 +200,14 @@ fn allotted_test<'a>(
     if !state::is_measured(measurement) {
         return untaken();
     }
-    if !amount_ranges::arrays_right(consumption, losses, balance, revision, n) {
+    if !none_past(consumption, losses, balance, revision, n) {
         return untaken();
     }
-    if LIMIT < state::offtake(consumption, losses) {
+    let offtakes = offtakes_test(consumption, losses, n, wholes);
+    if !offtakes.taken {
         return untaken();
     }
-    state::whole_amounts(consumption, losses, balance, revision, n, wholes);
-    wholes_test(&wholes[..n])
-}
-
-// Whether whole amounts and their sum are in range.
-fn wholes_test(wholes: &[i64]) -> StateTest
-    requires { ⌜ (length (now wholes) ≤ USERS) × ((i : ℕ) → Within 1000000000000 (atZ (now wholes) i)) ⌝ }
-    ensures { λ r. ⌜ Decides (r .taken) (Wholes (length (now (wholes .entry))) (atZ (now (wholes .entry)))) × (r .sum ≡ totalZ (now (wholes .entry))) ⌝ }
-{
-    StateTest {
-        taken: amount_ranges::wholes_right(wholes),
-        sum: numbers::sum_of(wholes),
-    }
+    balances_test(balance, revision, n, wholes)
 }
 
 // The tests of a point-day in parts.

@@ -1,16 +1,11 @@
 -- `taken::allotted_test` meets its contract: each test decides one fact. Assumes nothing.
-use mathlib.Core.Path.{sym, ap, _∙_}
+use mathlib.Core.Path.{sym, _∙_}
 use native.Mathlib.Omega.{arith}
-use borrow.Author.Needs.{needs}
 use borrow.Author.Tests.{not-true, not-false}
-use lib.ListN.{length}
-use Rattle.numbers.specs.Sums.{totalZ}
+use borrow.Author.Needs.{needs}
 use Rattle.numbers.proofs.Lists.{true≢false}
-use Rattle.numbers.proofs.Sums.{length-table, totalZ-table}
-use Rattle.state.specs.Places.{whole-at}
-use Rattle.state.proofs.Ranges.{whole-within, table-within}
-use Rattle.taken.proofs.Facts.{small-parts, first-wholes, wholes-table}
-use Rattle.taken.proofs.Parts.{found-none}
+use Rattle.state.proofs.Lows.{offtake-within}
+use Rattle.taken.proofs.Parts.{found-none, column-at, column-long, allotted-found}
 use Rattle.taken.proofs.allotted_test.Statement.{statement}
 use Rattle.taken.proofs.allotted_test.Tie as tie
 
@@ -29,76 +24,63 @@ untaken-requires-2 c κs = search needs
 returns-2 : tie.Need-returns-2
 returns-2 c = found-none (c .untaken2 .ensures) (λ p. true≢false (sym (p .measured) ∙ sym (c .before .before .is-measured .ensures) ∙ not-true _ (c .before .if2 .taken)))
 
-arrays-right-requires : tie.Need-arrays-right-requires
-arrays-right-requires c κs = search needs
+none-past-requires : tie.Need-none-past-requires
+none-past-requires c κs = search needs
 
 untaken-requires-3 : tie.Need-untaken-requires-3
 untaken-requires-3 c κs = search needs
 
 returns-3 : tie.Need-returns-3
-returns-3 c = found-none (c .untaken3 .ensures) (λ p. c .before .before .arrays-right .ensures .no (not-true _ (c .before .if3 .taken)) (p .arrays))
+returns-3 c = found-none (c .untaken3 .ensures) (λ p. c .before .before .none-past .ensures .no (not-true _ (c .before .if3 .taken)) (p .past))
 
-offtake-requires : tie.Need-offtake-requires
-offtake-requires c κs =
-    let l = c .before .before .before .before .before .pre .1 in
-    let a = c .before .arrays-right .ensures .yes (not-false _ (c .if3 .left)) in
-    (a .consumption .range, a .losses .range, l .consumption, l .losses)
+offtakes-test-requires : tie.Need-offtakes-test-requires
+offtakes-test-requires c κs =
+    let p = c .before .before .before .before .before .before .pre in
+    (p .0, p .1 .consumption, p .1 .losses, p .2)
 
 untaken-requires-4 : tie.Need-untaken-requires-4
 untaken-requires-4 c κs = search needs
 
-returns-4 : tie.Need-returns-4
-returns-4 c = found-none (c .untaken4 .ensures) (λ p. omega (arith, c .before .if4 .taken, c .before .before .offtake .ensures, p .offtake))
-
-whole-amounts-requires : tie.Need-whole-amounts-requires
-whole-amounts-requires c κs =
-    let p = c .before .before .before .before .before .before .before .before .pre in
-    let t = small-parts (c .before .before .before .before .arrays-right .ensures .yes (not-false _ (c .before .before .before .if3 .left))) in
-    (p .0, omega (arith, p .0, p .2), t .0, t .1, t .2, t .3, p .1)
-
-slice-reshare-prefix-wholes-test : tie.Need-slice-reshare-prefix-wholes-test
-slice-reshare-prefix-wholes-test c = search needs
-
-slice-aggregate-wholes-test : tie.Need-slice-aggregate-wholes-test
-slice-aggregate-wholes-test c =
-    let a = c .before .before .before .before .before .before .before .before .before .before .before .args in
-    let f = whole-at (a .consumption .now) (a .losses .now) (a .balance .now) (a .revision .now) in
-    sym (ap length (first-wholes f (a .n) (a .wholes .now) (c .before .before .whole-amounts .ensures)) ∙ length-table f (a .n))
-
-wholes-test-requires : tie.Need-wholes-test-requires
-wholes-test-requires c κs =
-    let s = c .before .before .before .before .before .before .before .before .before .before .before in
-    let a = s .args in
-    let f = whole-at (a .consumption .now) (a .losses .now) (a .balance .now) (a .revision .now) in
-    let t = small-parts (c .before .before .before .before .before .before .before .arrays-right .ensures .yes (not-false _ (c .before .before .before .before .before .before .if3 .left))) in
-    let e = first-wholes f (a .n) (a .wholes .now) (c .before .before .whole-amounts .ensures) in (
-      omega (arith, ap length e ∙ length-table f (a .n), s .pre .0),
-      table-within f (a .n) _ e (whole-within (a .consumption .now) (a .losses .now) (a .balance .now) (t .0) (t .1) (t .2) (a .revision .now) (t .3)),
-    )
-
 same-length : tie.Need-same-length
 same-length c = search needs
 
+returns-4 : tie.Need-returns-4
+returns-4 c = found-none (c .untaken4 .ensures) (λ p. c .before .before .before .before .offtakes-test .ensures .decides .no (not-true _ (c .before .if4 .taken)) (p .offtakes))
+
+balances-test-requires : tie.Need-balances-test-requires
+balances-test-requires c κs =
+    let s = c .before .before .before .before .before .before .before .before .before .before .before in
+    let a = s .args in
+    let p = s .pre in
+    let t = not-false _ (c .before .if4 .left) in
+    let o = c .before .before .before .before .offtakes-test .ensures .decides .yes t in
+    let e = c .before .before .before .before .offtakes-test .ensures .wholes t in (
+      p .0,
+      p .1 .balance,
+      p .1 .revision,
+      column-long (a .consumption .now) (a .losses .now) (a .n) (a .wholes .now) _ e (omega (arith, p .0, p .2)) ∙ p .2,
+      λ s l. rw (column-at (a .consumption .now) (a .losses .now) (a .balance .now) (a .revision .now) (a .n) (a .wholes .now) _ e s l) (offtake-within (a .consumption .now) (a .losses .now) s (o .low s l)),
+    )
+
+same-length-2 : tie.Need-same-length-2
+same-length-2 c = search needs
+
 returns-5 : tie.Need-returns-5
 returns-5 c =
-    let a = c .before .before .before .before .before .before .before .before .before .before .before .before .args in
-    let f = whole-at (a .consumption .now) (a .losses .now) (a .balance .now) (a .revision .now) in
-    let e = first-wholes f (a .n) (a .wholes .now) (c .before .before .before .whole-amounts .ensures) in
-    let t = wholes-table (a .n) f _ e _ (c .wholes-test .ensures .0) in
-    record {
-      decides = record {
-        yes = λ q. record {
-          users = c .before .before .before .before .before .before .before .before .before .before .before .if1 .left;
-          measured = sym (c .before .before .before .before .before .before .before .before .before .before .is-measured .ensures) ∙ not-false _ (c .before .before .before .before .before .before .before .before .before .if2 .left);
-          arrays = c .before .before .before .before .before .before .before .before .arrays-right .ensures .yes (not-false _ (c .before .before .before .before .before .before .before .if3 .left));
-          offtake = omega (arith, c .before .before .before .before .before .if4 .left, c .before .before .before .before .before .before .offtake .ensures);
-          wholes = t .yes q;
-        };
-        no = λ q p. t .no q (p .wholes);
-      };
-      sum = λ q. c .wholes-test .ensures .1 ∙ ap totalZ e ∙ totalZ-table f (a .n);
-      wholes = λ q. c .before .before .before .whole-amounts .ensures;
-    }
+    let a = c .before .before .before .before .before .before .before .before .before .before .before .before .before .args in
+    let t = not-false _ (c .before .before .before .if4 .left) in
+    let o = c .before .before .before .before .before .before .offtakes-test .ensures in
+    allotted-found (a .consumption .now) (a .losses .now) (a .balance .now) (a .revision .now) (a .n) (a .wholes .now) _ (o .wholes t)
+    (λ s w. record {
+      users = c .before .before .before .before .before .before .before .before .before .before .before .before .if1 .left;
+      measured = sym (c .before .before .before .before .before .before .before .before .before .before .before .is-measured .ensures) ∙ not-false _ (c .before .before .before .before .before .before .before .before .before .before .if2 .left);
+      past = c .before .before .before .before .before .before .before .before .before .none-past .ensures .yes (not-false _ (c .before .before .before .before .before .before .before .before .if3 .left));
+      offtakes = o .decides .yes t;
+      sizes = s;
+      wholes = w;
+    })
+    (λ p. (p .sizes, p .wholes))
+    (c .before .balances-test .ensures)
 
 pub allotted-test-spec : {M : Type 1} → statement M
 allotted-test-spec =
@@ -109,15 +91,13 @@ allotted-test-spec =
     is-measured-requires
     untaken-requires-2
     returns-2
-    arrays-right-requires
+    none-past-requires
     untaken-requires-3
     returns-3
-    offtake-requires
+    offtakes-test-requires
     untaken-requires-4
-    returns-4
-    whole-amounts-requires
-    slice-reshare-prefix-wholes-test
-    slice-aggregate-wholes-test
-    wholes-test-requires
     same-length
+    returns-4
+    balances-test-requires
+    same-length-2
     returns-5)
