@@ -14,7 +14,7 @@ ghost use Rattle.telemetered.specs.Telemetered.{telemetered};
 ghost use Rattle.split.specs.Call.{answer, after};
 ghost use Rattle.spread.specs.Spread.{spread, number-of};
 ghost use Rattle.seatpomelo.specs.Settled.{settled, settles, number, size, type-number, month-numbers, province-numbers, estimate-numbers};
-ghost use Rattle.seatpomelo.specs.Lists.{amount-in, own-in, flows-in, entries-in, entry-count};
+ghost use Rattle.seatpomelo.specs.Lists.{amount-in, own-of, flows-in, entries-in, entry-count};
 use calendar::DayType;
 use calendar::DayTypeAnswer;
 use calendar::NumberAnswer;
@@ -125,7 +125,7 @@ pub extern "C" fn seatpomelo_telemetered(
     consumption: &mut u64,
     looked_at: &mut u64,
 ) -> u8
-    ensures { λ r. ⌜ settled r (now (consumption .exit) ∷ now («looked_at» .exit) ∷ []) ≡ settles estimate-numbers (telemetered day (now (holidays .entry)) (amount-in (now (reading .entry))) (own-in (now (own .entry))) (flows-in toll (now (yearly .entry)) (now (daily .entry)) factor) (entry-count (now (tags .entry)) (now (values .entry))) (entries-in (now (tags .entry)) (now (values .entry)))) (now (consumption .entry) ∷ now («looked_at» .entry) ∷ []) ⌝ }
+    ensures { λ r. ⌜ settled r (now (consumption .exit) ∷ now («looked_at» .exit) ∷ []) ≡ settles estimate-numbers (telemetered day (now (holidays .entry)) (amount-in (now (reading .entry))) (own-of (amount-in (now (own .entry)))) (flows-in toll (now (yearly .entry)) (now (daily .entry)) factor) (entry-count (now (tags .entry)) (now (values .entry))) (entries-in (now (tags .entry)) (now (values .entry)))) (now (consumption .entry) ∷ now («looked_at» .entry) ∷ []) ⌝ }
 {
     if tags.len() != values.len() {
         return OUT_OF_RANGE;
@@ -137,7 +137,7 @@ pub extern "C" fn seatpomelo_telemetered(
         day,
         holidays,
         lists::amount_in(reading),
-        lists::own_in(own),
+        lists::own_of(lists::amount_in(own)),
         lists::flows_in(toll, yearly, daily, factor),
         lists::history_in(tags, values),
         tags.len(),

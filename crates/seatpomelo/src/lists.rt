@@ -3,7 +3,7 @@ ghost use mathlib.Core.Path.{_≡_};
 ghost use Prim.Native.Nat.{_≤_};
 ghost use lib.ListN.{length, take};
 ghost use Rattle.history.specs.History.{ENTRIES};
-ghost use Rattle.seatpomelo.specs.Lists.{amount-in, own-in, toll-in, factor-in, flows-in, reading-in, entries-in, entry-count};
+ghost use Rattle.seatpomelo.specs.Lists.{amount-in, own-of, toll-in, factor-in, flows-in, reading-in, entries-in};
 use history::ENTRIES;
 use history::Entry;
 use history::Reading;
@@ -27,17 +27,14 @@ pub fn amount_in(list: &[u64]) -> Amount
     Amount::Known(LIMIT + 1)
 }
 
-// The user's own value.
-pub fn own_in(list: &[u64]) -> OwnValue
-    ensures { λ r. ⌜ r ≡ own-in (now (list .entry)) ⌝ }
+// The user's own value, if there is one.
+pub fn own_of(amount: Amount) -> OwnValue
+    ensures { λ r. ⌜ r ≡ own-of amount ⌝ }
 {
-    if list.len() == 0 {
-        return OwnValue::NotSent;
+    match amount {
+        Amount::Missing => OwnValue::NotSent,
+        Amount::Known(value) => OwnValue::Sent(value),
     }
-    if list.len() == 1 {
-        return OwnValue::Sent(list[0]);
-    }
-    OwnValue::Sent(LIMIT + 1)
 }
 
 fn toll_in(number: u8) -> Toll

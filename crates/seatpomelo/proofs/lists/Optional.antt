@@ -18,9 +18,8 @@ use Rattle.supply.specs.declared.Amount.{Amount}
 use Rattle.supply.specs.declared.Amount.the-variants.{Missing, Known}
 use Rattle.supply.specs.declared.Flows.{Flows}
 use Rattle.telemetered.specs.declared.OwnValue.{OwnValue}
-use Rattle.telemetered.specs.declared.OwnValue.the-variants.{NotSent, Sent}
 use Rattle.history.specs.declared.Entry.{Entry}
-use Rattle.seatpomelo.specs.Lists.{amount-in, own-in, entry-in, entries-in}
+use Rattle.seatpomelo.specs.Lists.{amount-in, entry-in, entries-in}
 
 pub no-amount : (xs : List ℕ) → length xs ≡ 0 → amount-in xs ≡ Missing
 no-amount [] e = refl
@@ -35,20 +34,6 @@ pub more-amounts : (xs : List ℕ) → (length xs ≡ 0 → ⊥) → (length xs 
 more-amounts [] n m = absurd (n refl)
 more-amounts (x ∷ []) n m = absurd (m refl)
 more-amounts (x ∷ y ∷ xs) n m = refl
-
-pub no-own : (xs : List ℕ) → length xs ≡ 0 → own-in xs ≡ NotSent
-no-own [] e = refl
-no-own (x ∷ xs) e = absurd (omega arith)
-
-pub one-own : (xs : List ℕ) → length xs ≡ 1 → own-in xs ≡ Sent (at xs 0)
-one-own [] e = absurd (omega arith)
-one-own (x ∷ []) e = refl
-one-own (x ∷ y ∷ xs) e = absurd (omega arith)
-
-pub more-own : (xs : List ℕ) → (length xs ≡ 0 → ⊥) → (length xs ≡ 1 → ⊥) → own-in xs ≡ Sent (LIMIT + 1)
-more-own [] n m = absurd (n refl)
-more-own (x ∷ []) n m = absurd (m refl)
-more-own (x ∷ y ∷ xs) n m = refl
 
 -- ---- two histories with the same entries that count give the same answer, and one that is too long is refused
 
