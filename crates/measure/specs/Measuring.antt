@@ -3,6 +3,7 @@ use mathlib.Core.Bool.{true}
 use mathlib.Core.Path.{_≡_}
 use Prim.Native.Nat.{ℕ}
 use Rattle.point_day.specs.Fields.{set-measurement}
+use Rattle.point_day.specs.Day.{emission-right}
 use Rattle.point_day.specs.Calls.{refused, done, measure}
 use Rattle.point_day.specs.Struct.{taken, outcome, called}
 use Rattle.point_day.specs.declared.Measurement.the-variants.{Measured}
@@ -12,6 +13,7 @@ use Rattle.point_day.specs.declared.PointDay.{PointDay}
 pub record Measures (e w : ℕ) (d : PointDay) : Type 0 where
   pub is : outcome done (set-measurement (Measured e w) d) ≡ called (measure e w) d
   pub taken : taken d ≡ true
+  pub right : emission-right e w ≡ true
 
 -- what the tests of a measure find, 0 or the number of a refusal, is what the call does
 pub record Tested (e w : ℕ) (d : PointDay) (r : ℕ) : Type 0 where

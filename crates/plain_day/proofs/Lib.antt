@@ -1,2 +1,5 @@
-pub mod Ranges
 pub mod Lists
+pub mod Ranges
+pub mod Again
+pub mod Stores
+pub mod Outcomes

@@ -13,8 +13,8 @@ use Rattle.numbers.specs.Sums.{atZ}
 use Rattle.numbers.specs.Lists.{both, every}
 use Rattle.numbers.specs.Amounts.{is-negative}
 use Rattle.numbers.proofs.Lists.{both-fst, both-snd}
-use Rattle.point_day.specs.Limits.{USERS}
-use Rattle.plain_day.specs.Layout.{LENGTH, USERS-AT, LAST-NUMBER, part, up-to, head-readable, is-readable}
+use Rattle.point_day.specs.Limits.{USERS, LAST-NUMBER}
+use Rattle.plain_day.specs.Layout.{LENGTH, USERS-AT, part, up-to, head-readable, is-readable}
 
 pub up-to-le : (m : ℕ) (z : ℤ) → up-to m z ≡ true → natAbs z ≤ m
 unfolding up-to
@@ -24,7 +24,7 @@ up-to-le m z e = leb-true (natAbs z) m (both-snd (not (is-negative z)) (leb (nat
 
 module _ (xs : List ℤ) (e : is-readable xs ≡ true) where
   abbrev rest : Bool
-  rest = both (head-readable (atZ xs 1) (atZ xs 2) (atZ xs 3) (atZ xs 4) (atZ xs 5) (atZ xs 6)) (every (up-to LAST-NUMBER) (part USERS-AT USERS xs))
+  rest = both (head-readable (atZ xs 0) (atZ xs 1) (atZ xs 2) (atZ xs 3) (atZ xs 4) (atZ xs 5)) (every (up-to LAST-NUMBER) (part USERS-AT USERS xs))
 
   pub laid-length : length xs ≡ LENGTH
   unfolding is-readable
@@ -33,7 +33,7 @@ module _ (xs : List ℤ) (e : is-readable xs ≡ true) where
   pub laid-users : every (up-to LAST-NUMBER) (part USERS-AT USERS xs) ≡ true
   unfolding is-readable
   laid-users =
-      both-snd (head-readable (atZ xs 1) (atZ xs 2) (atZ xs 3) (atZ xs 4) (atZ xs 5) (atZ xs 6)) (every (up-to LAST-NUMBER) (part USERS-AT USERS xs)) (both-snd (eqb (length xs) LENGTH) rest e)
+      both-snd (head-readable (atZ xs 0) (atZ xs 1) (atZ xs 2) (atZ xs 3) (atZ xs 4) (atZ xs 5)) (every (up-to LAST-NUMBER) (part USERS-AT USERS xs)) (both-snd (eqb (length xs) LENGTH) rest e)
 
   -- a part of them
   pub part-length : (from n : ℕ) → from + n ≤ LENGTH → length (part from n xs) ≡ n

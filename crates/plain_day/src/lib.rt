@@ -1,21 +1,30 @@
 // A point-day in plain numbers: where they stand, and whether a point-day can be read from them.
 pub mod from_numbers;
-pub mod head;
-pub mod to_numbers;
 
 ghost use mathlib.Core.Path.{_≡_};
-ghost use mathlib.Core.List.{_++_};
 ghost use Prim.Native.Nat.{_+_, _≤_};
-ghost use lib.ListN.{length, take, drop};
+ghost use lib.ListN.{length};
 ghost use Rattle.numbers.specs.Lists.{every};
-ghost use Rattle.plain_day.specs.Layout.{up-to, measurement-readable, head-readable, is-readable};
+ghost use Rattle.plain_day.specs.Layout.{put, up-to, emissions-readable, head-readable, is-readable};
 use point_day::CELLS;
+use point_day::LIMIT;
 use point_day::USERS;
 
-// A point-day in plain numbers, which the caller lends. Number 0 is the value of the last accepted call (losses added, rows looked at, R,
-// count of rows; else 0); 1 the stage (0 provisional, 1 final provisional, 2 final definitive); 2 and 3 whether allotted and measured (0, 1);
-// 4 and 5 emission and downstream emission, passed over if not measured; 6 the count of users. The arrays follow from these places on.
-pub const USERS_AT: usize = 7;
+// A point-day in plain numbers, which the caller lends: the stage (0 provisional, 1 final provisional, 2 final definitive), whether it is
+// allotted and measured (0, 1), emission and downstream emission, the count of users, and the arrays.
+pub const STAGE_AT: usize = 0;
+
+pub const ALLOTTED_AT: usize = 1;
+
+pub const MEASURED_AT: usize = 2;
+
+pub const EMISSION_AT: usize = 3;
+
+pub const DOWNSTREAM_AT: usize = 4;
+
+pub const COUNT_AT: usize = 5;
+
+pub const USERS_AT: usize = 6;
 
 pub const CONSUMPTION_AT: usize = USERS_AT + USERS;
 
@@ -54,19 +63,13 @@ fn all_up_to(xs: &[i64], most: u64) -> bool
     true
 }
 
-fn measurement_readable(measured: i64, emission: i64, downstream: i64) -> bool
-    ensures { λ r. ⌜ r ≡ measurement-readable measured emission downstream ⌝ }
+fn emissions_readable(emission: i64, downstream: i64) -> bool
+    ensures { λ r. ⌜ r ≡ emissions-readable emission downstream ⌝ }
 {
-    if !up_to(measured, 1) {
+    if !up_to(emission, LIMIT) {
         return false;
     }
-    if numbers::is_zero(measured) {
-        return true;
-    }
-    if numbers::is_negative(emission) {
-        return false;
-    }
-    !numbers::is_negative(downstream)
+    up_to(downstream, wire::magnitude(emission))
 }
 
 fn head_readable(
@@ -85,10 +88,13 @@ fn head_readable(
     if !up_to(allotted, 1) {
         return false;
     }
-    if numbers::is_negative(count) {
+    if !up_to(measured, 1) {
         return false;
     }
-    measurement_readable(measured, emission, downstream)
+    if !emissions_readable(emission, downstream) {
+        return false;
+    }
+    up_to(count, USERS as u64)
 }
 
 pub fn is_readable(xs: &[i64]) -> bool
@@ -97,7 +103,14 @@ pub fn is_readable(xs: &[i64]) -> bool
     if xs.len() != LENGTH {
         return false;
     }
-    if !head_readable(xs[1], xs[2], xs[3], xs[4], xs[5], xs[6]) {
+    if !head_readable(
+        xs[STAGE_AT],
+        xs[ALLOTTED_AT],
+        xs[MEASURED_AT],
+        xs[EMISSION_AT],
+        xs[DOWNSTREAM_AT],
+        xs[COUNT_AT],
+    ) {
         return false;
     }
     all_up_to(&xs[USERS_AT..CONSUMPTION_AT], LAST_NUMBER)
@@ -106,7 +119,7 @@ pub fn is_readable(xs: &[i64]) -> bool
 // Numbers put into a buffer from a place on.
 pub fn put(out: &mut [i64], at: usize, xs: &[i64])
     requires { ⌜ at + length (now xs) ≤ length (now out) ⌝ }
-    ensures { λ _. ⌜ now (out .exit) ≡ take at (now (out .entry)) ++ now (xs .entry) ++ drop (at + length (now (xs .entry))) (now (out .entry)) ⌝ }
+    ensures { λ _. ⌜ now (out .exit) ≡ put at (now (xs .entry)) (now (out .entry)) ⌝ }
 {
     let mut i = 0;
     while i < xs.len() {

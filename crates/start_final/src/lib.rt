@@ -29,7 +29,7 @@ fn is_last(stage: Stage) -> bool
 }
 
 // The stage after a stage.
-fn next_stage(stage: Stage) -> Stage
+pub fn next_stage(stage: Stage) -> Stage
     ensures { λ r. ⌜ r ≡ next stage ⌝ }
 {
     match stage {

@@ -49,6 +49,7 @@ returns-4 c =
     passes (a .emission) (a .downstream) _ record {
       is = measure-done (a .emission) (a .downstream) _ z t o (sym (c .before .emission-right .ensures) ∙ not-false _ (c .if3 .left)) refl;
       taken = t;
+      right = sym (c .before .emission-right .ensures) ∙ not-false _ (c .if3 .left);
     }
 
 pub measure-test-spec : {M : Type 1} → statement M

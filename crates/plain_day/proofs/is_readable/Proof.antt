@@ -42,13 +42,13 @@ unfolding is-readable
 returns-2 c =
     let s = c .before .before .before .before .before .before .before .before .before in
     let xs = s .args .xs .now in
-    let h1 : SFits w64 (atZ xs 1) = search needs in
-    let h2 : SFits w64 (atZ xs 2) = search needs in
-    let h3 : SFits w64 (atZ xs 3) = search needs in
-    let h4 : SFits w64 (atZ xs 4) = search needs in
-    let h5 : SFits w64 (atZ xs 5) = search needs in
-    let h6 : SFits w64 (atZ xs 6) = search needs in
-    let h : head-readable (atZ xs 1) (atZ xs 2) (atZ xs 3) (atZ xs 4) (atZ xs 5) (atZ xs 6) ≡ false =
+    let h1 : SFits w64 (atZ xs 0) = search needs in
+    let h2 : SFits w64 (atZ xs 1) = search needs in
+    let h3 : SFits w64 (atZ xs 2) = search needs in
+    let h4 : SFits w64 (atZ xs 3) = search needs in
+    let h5 : SFits w64 (atZ xs 4) = search needs in
+    let h6 : SFits w64 (atZ xs 5) = search needs in
+    let h : head-readable (atZ xs 0) (atZ xs 1) (atZ xs 2) (atZ xs 3) (atZ xs 4) (atZ xs 5) ≡ false =
     sym (rw (toZ-ofZ h1, toZ-ofZ h2, toZ-ofZ h3, toZ-ofZ h4, toZ-ofZ h5, toZ-ofZ h6) at (c .before .head-readable .ensures)) ∙ not-true _ (c .if2 .taken) in
     rw (eq-eqb (length xs) LENGTH (c .before .before .before .before .before .before .before .before .if1 .left), h)
 
@@ -69,13 +69,13 @@ unfolding is-readable
 returns-3 c =
     let s = c .before .before .before .before .before .before .before .before .before .before .before in
     let xs = s .args .xs .now in
-    let h1 : SFits w64 (atZ xs 1) = search needs in
-    let h2 : SFits w64 (atZ xs 2) = search needs in
-    let h3 : SFits w64 (atZ xs 3) = search needs in
-    let h4 : SFits w64 (atZ xs 4) = search needs in
-    let h5 : SFits w64 (atZ xs 5) = search needs in
-    let h6 : SFits w64 (atZ xs 6) = search needs in
-    let h : head-readable (atZ xs 1) (atZ xs 2) (atZ xs 3) (atZ xs 4) (atZ xs 5) (atZ xs 6) ≡ true =
+    let h1 : SFits w64 (atZ xs 0) = search needs in
+    let h2 : SFits w64 (atZ xs 1) = search needs in
+    let h3 : SFits w64 (atZ xs 2) = search needs in
+    let h4 : SFits w64 (atZ xs 3) = search needs in
+    let h5 : SFits w64 (atZ xs 4) = search needs in
+    let h6 : SFits w64 (atZ xs 5) = search needs in
+    let h : head-readable (atZ xs 0) (atZ xs 1) (atZ xs 2) (atZ xs 3) (atZ xs 4) (atZ xs 5) ≡ true =
     sym (rw (toZ-ofZ h1, toZ-ofZ h2, toZ-ofZ h3, toZ-ofZ h4, toZ-ofZ h5, toZ-ofZ h6) at (c .before .before .before .head-readable .ensures)) ∙ not-false _ (c .before .before .if2 .left) in
     rw (eq-eqb (length xs) LENGTH (c .before .before .before .before .before .before .before .before .before .before .if1 .left), h) (c .all-up-to .ensures)
 

@@ -10,7 +10,8 @@ use mir.Facts.{toZ-ofZ}
 use Rattle.numbers.specs.Sums.{atZ, table}
 use Rattle.numbers.proofs.Filled.{Filled, fill-none, fill-step, fill-all}
 use Rattle.numbers.proofs.Places.{every-at}
-use Rattle.plain_day.specs.Layout.{LAST-NUMBER, up-to}
+use Rattle.point_day.specs.Limits.{LAST-NUMBER}
+use Rattle.plain_day.specs.Layout.{up-to}
 use Rattle.plain_day.proofs.Lists.{table-map}
 use borrow.Author.Needs.{needs}
 use Rattle.plain_day.proofs.from_numbers.put_users.Statement.{statement}

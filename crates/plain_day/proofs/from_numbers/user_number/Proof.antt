@@ -1,7 +1,7 @@
 -- `plain_day::from_numbers::user_number` meets its contract. Assumes nothing.
 use native.Mathlib.Omega.{arith}
 use mir.Facts.{toZ-ofZ}
-use Rattle.plain_day.specs.Layout.{LAST-NUMBER}
+use Rattle.point_day.specs.Limits.{LAST-NUMBER}
 use Rattle.plain_day.proofs.Ranges.{up-to-le}
 use borrow.Author.Needs.{needs}
 use Rattle.plain_day.proofs.from_numbers.user_number.Statement.{statement}

@@ -1,5 +1,0 @@
-pub mod Statuses
-pub mod Outcomes
-pub mod Refusals
-pub mod Listed
-pub mod ReadBack

@@ -1,4 +1,0 @@
-pub mod Status
-pub mod Plain
-pub mod Listing
-pub mod Cases

@@ -1,0 +1,4 @@
+pub mod Effects
+pub mod Clearing
+pub mod Signed
+pub mod Listing

@@ -1,0 +1,43 @@
+-- The inventory of plain numbers, by what the inventory of the point-day is. Assumes nothing.
+use mathlib.Core.Path.{_≡_, refl, sym, ap, subst}
+use mathlib.Core.Bool.{true, false}
+use mathlib.Core.List.{List}
+use Prim.Native.Nat.{ℕ, _*_, _≤_}
+use lib.IntN.{ℤ}
+use lib.ListN.{length}
+use Rattle.point_day.specs.Limits.{KINDS, CELLS}
+use Rattle.point_day.specs.Struct.{read}
+use Rattle.inventory.specs.Inventory.{Answer, refused, written, inventory, Written, Afterwards}
+use Rattle.inventory.specs.Listed.{listed-in, Lists}
+use Rattle.plain_day.specs.Layout.{is-readable, count-in, day-in}
+use Rattle.in_place.specs.Listing.{plain-inventory, status, row-count}
+
+-- status, count of rows and buffer of an answer
+abbrev Gives : List ℤ → List ℤ → ℕ → Answer → ℕ → ℕ → List ℤ → Type 0
+Gives xs out before a r v after = (r ≡ status a) × ((v ≡ row-count a before) × Afterwards a (read (day-in xs)) out after)
+
+module _ (xs out : List ℤ) (before : ℕ) where
+  as-plain : (a : Answer) → a ≡ plain-inventory xs out → (r v : ℕ) (after : List ℤ) → Gives xs out before a r v after
+      → Gives xs out before (plain-inventory xs out) r v after
+  as-plain a e r v after g = subst (λ x. Gives xs out before x r v after) e g
+
+  pub unreadable : is-readable xs ≡ false → Gives xs out before (plain-inventory xs out) 2 before out
+  unreadable e = as-plain (refused 2) (unfold plain-inventory in rw e) 2 before out (refl, (refl, refl))
+
+  module _ (e : is-readable xs ≡ true) where
+    readable : (a : Answer) → a ≡ inventory (day-in xs) out → a ≡ plain-inventory xs out
+    unfolding plain-inventory
+    readable a q = rw e q
+
+    pub refuses : (n : ℕ) → refused n ≡ inventory (day-in xs) out → Gives xs out before (plain-inventory xs out) n before out
+    refuses n q = as-plain (refused n) (readable (refused n) q) n before out (refl, (refl, refl))
+
+    pub lists : (k : ℕ) → Lists (day-in xs) (length out) k → {after : List ℤ} → after ≡ listed-in (day-in xs) out
+        → Gives xs out before (plain-inventory xs out) 0 k after
+    lists k L {after} q =
+        as-plain (written k) (readable (written k) (L .is out refl)) 0 k after
+        (refl, (refl, subst (Written (read (day-in xs)) out) (sym q) (L .rows out)))
+
+pub few : (xs : List ℤ) (room k : ℕ) → Lists (day-in xs) room k → KINDS * count-in xs ≤ CELLS
+unfolding day-in
+few xs room k L = L .few
