@@ -1,12 +1,12 @@
 -- Document 01, section "Day file and inventory": the report on a day file in a lent buffer. The file's refusal comes first, then 14 for a
 -- buffer without the room; what is refused leaves the buffer as it was. Assumes nothing.
 use mathlib.Core.Path.{_≡_, refl}
-use mathlib.Core.List.{List, [], _∷_}
+use mathlib.Core.List.{List, []}
 use Prim.Native.Nat.{ℕ}
 use lib.Dec.{leb}
 use lib.ListN.{length}
 use Rattle.numbers.specs.Sums.{pick}
-use Rattle.numbers.specs.Lists.{every}
+use Rattle.point_day.specs.Day.{Day}
 use Rattle.calendar.specs.Answers.{Answer, refused, given}
 use Rattle.wire.specs.Text.{written}
 use Rattle.day_file.specs.Form.{well-formed}
@@ -42,7 +42,14 @@ answer-of (Written n) = given n
 
 -- ---- cases
 
--- without room too, a malformed file is 13
+-- a malformed file is 13 without room too
 malformed-without-room : report-call [] 0 ≡ refused 13
 unfolding report well-formed
 malformed-without-room = refl
+
+-- 8,191 bytes are too few for any report, 8,192 enough
+one-byte-short : (day : ℕ) (d : Day) → text-for 8191 (allotted day d) ≡ refused 14
+one-byte-short day d = refl
+
+just-the-room : (day : ℕ) (d : Day) → text-for 8192 (allotted day d) ≡ given (text (allotted day d))
+just-the-room day d = refl

@@ -14,7 +14,7 @@ ghost use Rattle.type_2.specs.Type2.{type-2, profile};
 ghost use Rattle.telemetered.specs.Telemetered.{telemetered};
 ghost use Rattle.split.specs.Call.{answer, after};
 ghost use Rattle.spread.specs.Spread.{spread, number-of};
-ghost use Rattle.day_report.specs.Answered.{report-call, buffer-after, size-of};
+ghost use Rattle.day_report.specs.Answered.{report-call, buffer-after, size-of, answer-of as bytes-of};
 ghost use Rattle.seatpomelo.specs.Settled.{settled, settles, number, size, type-number, month-numbers, province-numbers, estimate-numbers};
 ghost use Rattle.seatpomelo.specs.Lists.{amount-in, own-of, flows-in, entries-in, entry-count};
 use calendar::DayType;
@@ -307,6 +307,16 @@ pub extern "C" fn seatpomelo_spread(reading: u64, weights: &[i64], out: &mut [i6
 
 // ---- Day report
 
+// The bytes that were written, as an answer with one number.
+fn bytes_of(answer: ReportAnswer) -> NumberAnswer
+    ensures { λ r. ⌜ answer-of r ≡ bytes-of answer ⌝ }
+{
+    match answer {
+        ReportAnswer::Refused(number) => NumberAnswer::Refused(number),
+        ReportAnswer::Written(bytes) => NumberAnswer::Given(bytes as u64),
+    }
+}
+
 // The report on a day file: its text at the start of `out`, which must have room for the longest, and how many bytes it has.
 #[no_mangle]
 pub extern "C" fn seatpomelo_day_report(file: &[u8], out: &mut [u8], written: &mut u64) -> u8
@@ -314,8 +324,5 @@ pub extern "C" fn seatpomelo_day_report(file: &[u8], out: &mut [u8], written: &m
     ensures { λ _. ⌜ now (out .exit) ≡ buffer-after (report-call (now (file .entry)) (length (now (out .entry)))) (now (out .entry)) ⌝ }
 {
     let answer = day_report::write_report(file, out);
-    match answer {
-        ReportAnswer::Refused(number) => number,
-        ReportAnswer::Written(bytes) => give(written, bytes as u64),
-    }
+    settle(bytes_of(answer), written)
 }
