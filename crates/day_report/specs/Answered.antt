@@ -1,5 +1,5 @@
--- Document 01, section "Day file and inventory": the report on a day file in a lent buffer. The file's refusal comes first, then 14 for a
--- buffer without the room; what is refused leaves the buffer as it was. Assumes nothing.
+-- Document 01, section "Day file and inventory": the report on a day file in a lent buffer. The file's refusal comes first, then 14, the
+-- number of a lent buffer that is too short; what is refused leaves the buffer as it was. Assumes nothing.
 use mathlib.Core.Path.{_≡_, refl}
 use mathlib.Core.List.{List, []}
 use Prim.Native.Nat.{ℕ}

@@ -24,8 +24,8 @@ use point_day::CELLS;
 use point_day::USERS;
 
 // Allots a point-day that is entered, whose consumption and losses are `offtake`, and writes its report. The report needs no more than the
-// users' shares of the balance: their kinds add up to them, and no whole amount comes near refusal 12. So that nothing refuses after the
-// room is tested, and nothing is written before.
+// users' shares of the balance: their kinds add up to them, and no whole amount comes near refusal 12. Nothing refuses after the room is
+// tested, and nothing is written before.
 fn allot<'a>(
     out: &mut [u8],
     header: Header,
