@@ -39,4 +39,11 @@ extern "C" {
         out: *mut i64,
         out_count: usize,
     ) -> u8;
+    pub fn seatpomelo_day_report(
+        file: *const u8,
+        file_count: usize,
+        out: *mut u8,
+        out_count: usize,
+        written: *mut u64,
+    ) -> u8;
 }

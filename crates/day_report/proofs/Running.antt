@@ -1,5 +1,5 @@
 -- A day file's calls on a fresh point-day, and the report in a buffer. Assumes nothing.
-use mathlib.Core.Path.{_≡_, refl, sym, ap, _∙_}
+use mathlib.Core.Path.{_≡_, refl, sym, ap, ap₂, _∙_}
 use mathlib.Core.Bool.{true, false}
 use mathlib.Core.List.{List, [], _∷_, _++_, map}
 use mathlib.Core.Logic.{⊎-elim}
@@ -19,6 +19,7 @@ use Rattle.point_day.specs.Calls as calls
 use Rattle.point_day.specs.Struct.{Sized, padded, laid, taken}
 use Rattle.point_day.specs.declared.Measurement.{Measurement}
 use Rattle.point_day.specs.declared.Measurement.the-variants.{Unmeasured, Measured}
+use Rattle.calendar.specs.Answers.{refused as refused-with, given}
 use Rattle.calendar.specs.Days.{LAST-DAY}
 use Rattle.point_day.specs.Fields.{set-measurement}
 use Rattle.measure.proofs.Measures.{measure-2, measure-done}
@@ -28,12 +29,15 @@ use Rattle.day_file.specs.Form.{MOST-BYTES, gas-day, emission, downstream, sect
 use Rattle.day_file.specs.File.{section-calls, file-calls}
 use Rattle.io.specs.Counts.{Counts}
 use Rattle.wire.specs.Text.{written}
-use Rattle.day_file.specs.Report.{refused, in-order, report}
+use Rattle.day_file.specs.Report.{Report, refused, allotted, in-order, report}
 use Rattle.day_file.specs.Text.{text}
 use Rattle.report.specs.Room.{REPORT-ROOM}
 use Rattle.file_lines.specs.Entering.{entering, unjoined}
 use Rattle.file_lines.proofs.Steps.{step}
 use Rattle.day_report.specs.Entered.{entered-and-allotted}
+use Rattle.day_report.specs.Answered.{text-for, report-call, buffer-after, size-of, answer-of}
+use Rattle.day_report.specs.declared.ReportAnswer.{ReportAnswer}
+use Rattle.day_report.specs.declared.ReportAnswer.the-variants.{Refused, Written as Text}
 use Rattle.day_report.proofs.allotment.Allotting.{unjoined-taken}
 
 -- ---- measure
@@ -108,10 +112,35 @@ module _ (f out : List ℕ) where
   pub no-room : length out < REPORT-ROOM → Written 0 out
   no-room l = rw (lt-leb REPORT-ROOM (length out) l) (refl, (refl, (omega arith, refl)))
 
-  pub with-room : REPORT-ROOM ≤ length out → {r : ℕ} {o : List ℕ} → r ≡ length (text (report f)) → o ≡ written out 0 (text (report f)) → Written r o
-  with-room l {r} {o} p q =
+  in-text : REPORT-ROOM ≤ length out → {r : ℕ} {o : List ℕ} → r ≡ length (text (report f)) → o ≡ written out 0 (text (report f)) → Written r o
+  in-text l {r} {o} p q =
       rw (le-leb REPORT-ROOM (length out) l)
       (p, (q, (rw (q, p) fits, rw (q, p) (sym (ap length (take-at (text (report f)) (drop (0 + length (text (report f))) out) (length (text (report f))) refl))))))
     where
       fits : length (text (report f)) ≤ length (written out 0 (text (report f)))
       fits = rw (length-append (text (report f)) (drop (0 + length (text (report f))) out)) (omega arith)
+
+  -- the answer of `write_report` in a buffer with the room, and the text that is then there
+  module _ (l : REPORT-ROOM ≤ length out) (a : ReportAnswer) {o : List ℕ} (p : answer-of a ≡ size-of (report-call f (length out))) (q : o ≡ buffer-after (report-call f (length out)) out) where
+    pub by-refusal : {n : ℕ} → a ≡ Refused n → {r : ℕ} {u : List ℕ} → r ≡ length (text (refused n)) → u ≡ written o 0 (text (refused n)) → Written r u
+    by-refusal {n} e {r} {u} h k =
+        let z = go (report f) (sym (ap answer-of e) ∙ p) q in
+        in-text l (h ∙ ap (λ t. length (text t)) (z .0)) (k ∙ ap₂ (λ o t. written o 0 (text t)) (z .1) (z .0))
+      where
+        go : (t : Report) → refused-with n ≡ size-of (text-for (length out) t) → o ≡ buffer-after (text-for (length out) t) out → (refused n ≡ t) × (o ≡ out)
+        go (refused m) x y = (cc, y)
+        go (allotted g d) x y =
+            let x = rw (le-leb REPORT-ROOM (length out) l) at x in
+            absurd (let z : _≡_ {A = ℕ} 0 1 = cc in omega arith)
+
+    pub by-text : {n : ℕ} → a ≡ Text n → Written n o
+    by-text {n} e =
+        let z = go (report f) (sym (ap answer-of e) ∙ p) q in
+        in-text l (z .0) (z .1)
+      where
+        go : (t : Report) → given n ≡ size-of (text-for (length out) t) → o ≡ buffer-after (text-for (length out) t) out → (n ≡ length (text t)) × (o ≡ written out 0 (text t))
+        go (refused m) x y = absurd (let z : _≡_ {A = ℕ} 0 1 = cc in omega arith)
+        go (allotted g d) x y =
+            let x = rw (le-leb REPORT-ROOM (length out) l) at x in
+            let y = rw (le-leb REPORT-ROOM (length out) l) at y in
+            (cc, y)

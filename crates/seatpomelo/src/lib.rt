@@ -3,6 +3,7 @@ pub mod lists;
 
 ghost use mathlib.Core.Path.{_≡_};
 ghost use mathlib.Core.List.{[], _∷_};
+ghost use lib.ListN.{length};
 ghost use Rattle.calendar.specs.Answers.{answer-of};
 ghost use Rattle.calendar.specs.DayTypes.{type-call};
 ghost use Rattle.months.specs.WorkingDays.{month-call};
@@ -13,11 +14,13 @@ ghost use Rattle.type_2.specs.Type2.{type-2, profile};
 ghost use Rattle.telemetered.specs.Telemetered.{telemetered};
 ghost use Rattle.split.specs.Call.{answer, after};
 ghost use Rattle.spread.specs.Spread.{spread, number-of};
+ghost use Rattle.day_report.specs.Answered.{report-call, buffer-after, size-of, answer-of as bytes-of};
 ghost use Rattle.seatpomelo.specs.Settled.{settled, settles, number, size, type-number, month-numbers, province-numbers, estimate-numbers};
 ghost use Rattle.seatpomelo.specs.Lists.{amount-in, own-of, flows-in, entries-in, entry-count};
 use calendar::DayType;
 use calendar::DayTypeAnswer;
 use calendar::NumberAnswer;
+use day_report::ReportAnswer;
 use degree_days::DegreeDaysAnswer;
 use history::ENTRIES;
 use months::MonthAnswer;
@@ -300,4 +303,26 @@ pub extern "C" fn seatpomelo_spread(reading: u64, weights: &[i64], out: &mut [i6
         SpreadAnswer::Refused(number) => number,
         SpreadAnswer::Done => 0,
     }
+}
+
+// ---- Day report
+
+// The bytes that were written, as an answer with one number.
+fn bytes_of(answer: ReportAnswer) -> NumberAnswer
+    ensures { λ r. ⌜ answer-of r ≡ bytes-of answer ⌝ }
+{
+    match answer {
+        ReportAnswer::Refused(number) => NumberAnswer::Refused(number),
+        ReportAnswer::Written(bytes) => NumberAnswer::Given(bytes as u64),
+    }
+}
+
+// The report on a day file: its text at the start of `out`, which must have room for the longest, and how many bytes it has.
+#[no_mangle]
+pub extern "C" fn seatpomelo_day_report(file: &[u8], out: &mut [u8], written: &mut u64) -> u8
+    ensures { λ r. ⌜ settled r (now (written .exit) ∷ []) ≡ settles number (size-of (report-call (now (file .entry)) (length (now (out .entry))))) (now (written .entry) ∷ []) ⌝ }
+    ensures { λ _. ⌜ now (out .exit) ≡ buffer-after (report-call (now (file .entry)) (length (now (out .entry)))) (now (out .entry)) ⌝ }
+{
+    let answer = day_report::write_report(file, out);
+    settle(bytes_of(answer), written)
 }

@@ -21,19 +21,9 @@ struct Day {
     offtake: u64,
 }
 
-/// Writes the report into the buffer and answers how many bytes it has: 0, and nothing written, if there is too little room.
-pub fn day_report(file: &[u8], out: &mut [u8]) -> usize {
-    if out.len() < TEXT_ROOM {
-        return 0;
-    }
-    let mut text = Text { out, len: 0 };
-    if let Err(number) = report(file, &mut text) {
-        text.line(b"refused", &[number as i64]);
-    }
-    text.len
-}
-
-fn report(file: &[u8], text: &mut Text) -> Result<(), u8> {
+/// Writes the report into the buffer and answers how many bytes it has, or gives the number of a refusal and writes nothing: the file's
+/// own, then 14 if there is too little room.
+pub fn day_report(file: &[u8], out: &mut [u8]) -> Result<usize, u8> {
     if !is_well_formed(file) {
         return Err(13);
     }
@@ -58,8 +48,12 @@ fn report(file: &[u8], text: &mut Text) -> Result<(), u8> {
         day.enter(&file[start..end])?;
     }
     day.allot()?;
-    day.print(gas_day, text);
-    Ok(())
+    if out.len() < TEXT_ROOM {
+        return Err(14);
+    }
+    let mut text = Text { out, len: 0 };
+    day.print(gas_day, &mut text);
+    Ok(text.len)
 }
 
 fn is_well_formed(file: &[u8]) -> bool {

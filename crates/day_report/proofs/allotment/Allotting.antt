@@ -7,7 +7,7 @@ use native.Mathlib.Omega.{arith}
 use lib.Dec.{leb}
 use lib.IntN.{ℤ, pos, natAbs, _-ℤ_}
 use lib.ListN.{length, take, drop, replicate, length-replicate, List·getD-append}
-use borrow.Author.Tests.{leb-true, le-leb}
+use borrow.Author.Tests.{leb-true, le-leb, lt-leb}
 use mir.Syntax.{w64}
 use mir.Val.{toZ, ofZ}
 use Rattle.numbers.specs.Sums.{table, atZ, total}
@@ -33,30 +33,44 @@ use Rattle.state.proofs.Cells.{within-from}
 use Rattle.allot.specs.UserWeights.{CellsInRange, basis-weights}
 use Rattle.allot.specs.Shared.{shares-of}
 use Rattle.allot.proofs.Outcomes.{cells-in-range, allot-8}
+use Rattle.calendar.specs.Answers.{given}
 use Rattle.day_book.specs.Run.{allot}
 use Rattle.day_file.specs.Form.{sections}
 use Rattle.day_file.specs.File.{section-calls}
 use Rattle.wire.specs.Text.{written}
-use Rattle.day_file.specs.Report.{Report, refused, in-order}
+use Rattle.day_file.specs.Report.{Report, refused, allotted, in-order}
 use Rattle.day_file.specs.Text.{text}
 use Rattle.report.proofs.refusal.Casts.{cast-back}
 use Rattle.report.proofs.lines.Sizes.{wrapped}
 use Rattle.report.specs.Allotted.{shares-text}
+use Rattle.report.specs.Room.{REPORT-ROOM}
 use Rattle.file_lines.specs.Entering.{entering, Entered, Comes-to, unjoined}
 use Rattle.file_lines.specs.declared.lines.SoFar.{SoFar}
 use Rattle.file_lines.specs.declared.lines.SoFar.the-variants.{Refused as Stopped, Offtake}
 use Rattle.file_lines.proofs.Steps.{step, sized, sum-small}
 use Rattle.day_report.specs.Entered.{entered-and-allotted}
-use Rattle.day_report.proofs.allotment.Shares.{shares-day, shares-limited, report-is}
+use Rattle.day_report.specs.Answered.{text-for, buffer-after, size-of, answer-of}
+use Rattle.day_report.specs.declared.ReportAnswer.{ReportAnswer}
+use Rattle.day_report.specs.declared.ReportAnswer.the-variants.{Refused, Written}
+use Rattle.day_report.proofs.allotment.Shares.{after, day-after, shares-day, shares-limited, report-is}
 
 -- ---- a report in a buffer
 
--- a report's text stands in the buffer, and so many bytes it has
-abbrev pub Reported : List ℕ → Report → ℕ → List ℕ → Type 0
-Reported out t r o = (r ≡ length (text t)) × (o ≡ written out 0 (text t))
+-- an answer, and what the buffer holds afterwards, are those of a report
+abbrev pub Reported : List ℕ → Report → ReportAnswer → List ℕ → Type 0
+Reported out t r o = (answer-of r ≡ size-of (text-for (length out) t)) × (o ≡ buffer-after (text-for (length out) t) out)
 
-pub reported : (out : List ℕ) {t u : Report} → t ≡ u → {r : ℕ} {o : List ℕ} → r ≡ length (text t) → o ≡ written out 0 (text t) → Reported out u r o
-reported out e p q = (p ∙ ap (λ t. length (text t)) e, q ∙ ap (λ t. written out 0 (text t)) e)
+pub reported : (out : List ℕ) {t u : Report} → t ≡ u → (r : ReportAnswer) {o : List ℕ} → Reported out t r o → Reported out u r o
+reported out e r {o} p = subst (λ t. Reported out t r o) e p
+
+pub refusing : (out : List ℕ) (n : ℕ) {t : Report} → refused n ≡ t → Reported out t (Refused n) out
+refusing out n e = reported out e (Refused n) (refl, refl)
+
+short-room : (out : List ℕ) (g : ℕ) (d : Day) → length out < REPORT-ROOM → Reported out (allotted g d) (Refused 14) out
+short-room out g d l = rw (lt-leb REPORT-ROOM (length out) l) (refl, refl)
+
+enough-room : (out : List ℕ) (g : ℕ) (d : Day) → REPORT-ROOM ≤ length out → {r : ℕ} {o : List ℕ} → r ≡ length (text (allotted g d)) → o ≡ written out 0 (text (allotted g d)) → Reported out (allotted g d) (Written r) o
+enough-room out g d l p q = rw (le-leb REPORT-ROOM (length out) l) (ap given p, q)
 
 -- ---- allot
 
@@ -93,6 +107,19 @@ module _ {n : ℕ} {us : List ℕ} {cs ls : List ℤ} {x : ℕ} (s : Entered n u
 
   offtake-is : x ≡ all-offtake (read p .users)
   offtake-is = s .sum ∙ (unfold read user-at entering in refl)
+
+  module _ (h : n ≡ 0 → ⊥) (g : ℕ) (out : List ℕ) where
+    allots : in-order g (allot ∷ []) p ≡ allotted g (after p (sized s (Measured e w)) (s .taken (Measured e w) r) (unfold entering in refl) e w (unfold entering in refl) (unfold entering in h))
+    allots = day-after p (sized s (Measured e w)) (s .taken (Measured e w) r) (unfold entering in refl) e w (unfold entering in refl) (unfold entering in h) g
+
+    pub no-room : length out < REPORT-ROOM → Reported out (in-order g (allot ∷ []) p) (Refused 14) out
+    no-room l = reported out (sym allots) (Refused 14) (short-room out g _ l)
+
+    pub with-room : REPORT-ROOM ≤ length out → {t : List ℕ} → t ≡ text (in-order g (allot ∷ []) p) → {r : ℕ} {o : List ℕ} → r ≡ length t → o ≡ written out 0 t
+        → Reported out (in-order g (allot ∷ []) p) (Written r) o
+    with-room l k {r} u v =
+        reported out (sym allots) (Written r)
+        (enough-room out g _ l (u ∙ ap length (k ∙ ap text allots)) (v ∙ ap (λ t. written out 0 t) (k ∙ ap text allots)))
 
   module _ (h : n ≡ 0 → ⊥) {b : ℤ} (q : b ≡ pos (e - w) -ℤ pos x) {zs₀ zs : List ℤ} (o : zs₀ ≡ replicate USERS (pos 0)) (k : zs ≡ shares-of b cs ls us n ++ drop n zs₀) where
     net-is : pos (e - w) ≡ net (read p)

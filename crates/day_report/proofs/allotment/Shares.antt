@@ -98,7 +98,7 @@ module _ (p : PointDay) (z : Sized p) (ok : taken p ≡ true) (a : p .allotted �
   abbrev all : Bool
   all = none-in-2-to-5 us
 
-  abbrev after : Day
+  abbrev pub after : Day
   after = allotted-with (balanced (read p)) (read p)
 
   t : Taken p
@@ -122,7 +122,7 @@ module _ (p : PointDay) (z : Sized p) (ok : taken p ≡ true) (a : p .allotted �
       (λ u x h k. record { consumption = h .consumption; losses = h .losses; balance = lengthZ x (or-kind-1 (by-basis all u)) kinds ∙ length-weights all u h })
       us (user-shares (read p)) (read-full p z t) (anything (user-shares (read p)))
 
-  day-after : (g : ℕ) → in-order g (allot ∷ []) p ≡ allotted g after
+  pub day-after : (g : ℕ) → in-order g (allot ∷ []) p ≡ allotted g after
   unfolding in-order
   day-after g =
       step g allot [] p (allot-laid p z ok a (ap is-measured m) h)

@@ -3,7 +3,7 @@ use mathlib.Core.Path.{refl, ap, subst}
 use Rattle.point_day.specs.declared.Measurement.the-variants.{Measured}
 use Rattle.day_file.specs.declared.Header.{Header}
 use Rattle.file_lines.specs.Entering.{Entered, Unless-refused}
-use Rattle.day_report.proofs.allotment.Allotting.{reported, zeros-entered, sections-refuse, sections-lead}
+use Rattle.day_report.proofs.allotment.Allotting.{reported, refusing, zeros-entered, sections-refuse, sections-lead}
 use borrow.Author.Needs.{needs}
 use native.Mathlib.Omega.{arith}
 use Rattle.day_report.proofs.allotment.enter.Statement.{statement}
@@ -34,9 +34,6 @@ enter-sections-requires c κs =
 enum-known-number : tie.Need-enum-known-number
 enum-known-number c = search needs
 
-put-refused-requires : tie.Need-put-refused-requires
-put-refused-requires c κs = search needs
-
 enum-known-offtake : tie.Need-enum-known-offtake
 enum-known-offtake c = search needs
 
@@ -53,17 +50,12 @@ allot-requires c κs =
     let after = e .enter-sections .last .1 .1 .1 .1 in (
       s .pre .2,
       s .pre .3,
-      s .pre .4,
       subst (λ r. Unless-refused r (Entered (h .sections) (after .0) (after .1 .0) (after .1 .1 .0))) (o .offtake .given .1) (e .enter-sections .ensures .0),
     )
 
-same-length : tie.Need-same-length
-same-length c = search needs
-
 returns : tie.Need-returns
 returns c =
-    let p = c .before .before in
-    let n = p .before .before .before in
+    let n = c .before in
     let e = n .before .before in
     let l = e .before .before .before .before in
     let k = l .before in
@@ -72,14 +64,13 @@ returns c =
     let a = s .args in
     let h = a .header in
     let after = e .enter-sections .last .1 .1 .1 .1 in
-    reported (a .out .now)
+    refusing (a .out .now) (n .number .given .0 .0)
     (sections-refuse (a .file .now) (e .enter-sections .result) (u .no-users .ensures) (k .no-cells .ensures) (l .no-cells2 .ensures)
-    (h .sections) (after .0) (after .1 .0) (after .1 .1 .0) (e .enter-sections .ensures .1) (Measured (h .emission) (h .downstream)) (s .pre .4)
+    (h .sections) (after .0) (after .1 .0) (after .1 .1 .0) (e .enter-sections .ensures .1) (Measured (h .emission) (h .downstream)) (s .pre .3)
     (n .number .given .0 .0) (n .number .given .1) (h .day))
-    (p .put-refused .ensures .0) (p .put-refused .ensures .1)
 
-same-length-2 : tie.Need-same-length-2
-same-length-2 c = search needs
+same-length : tie.Need-same-length
+same-length c = search needs
 
 returns-2 : tie.Need-returns-2
 returns-2 c =
@@ -95,9 +86,9 @@ returns-2 c =
     let after = e .enter-sections .last .1 .1 .1 .1 in
     reported (a .out .now)
     (sections-lead (a .file .now) (e .enter-sections .result) (u .no-users .ensures) (k .no-cells .ensures) (l .no-cells2 .ensures)
-    (h .sections) (after .0) (after .1 .0) (after .1 .1 .0) (e .enter-sections .ensures .1) (Measured (h .emission) (h .downstream)) (s .pre .4)
+    (h .sections) (after .0) (after .1 .0) (after .1 .1 .0) (e .enter-sections .ensures .1) (Measured (h .emission) (h .downstream)) (s .pre .3)
     (o .offtake .given .0 .0) (o .offtake .given .1) (h .day))
-    (f .allot .ensures .0) (f .allot .ensures .1)
+    (f .allot .result) (f .allot .ensures)
 
 pub enter-spec : {M : Type 1} → statement M
 enter-spec =
@@ -108,10 +99,8 @@ enter-spec =
     no-cells-requires-2
     enter-sections-requires
     enum-known-number
-    put-refused-requires
     enum-known-offtake
     allot-requires
-    same-length
     returns
-    same-length-2
+    same-length
     returns-2)
