@@ -21,19 +21,19 @@ struct Day {
     offtake: u64,
 }
 
-/// Writes the report into the buffer and answers how many bytes it has: 0, and nothing written, if there is too little room.
-pub fn day_report(file: &[u8], out: &mut [u8]) -> usize {
+/// Writes the report into the buffer and answers how many bytes it has, or the number of the refusal, which writes nothing: the file's own,
+/// then 14 if there is too little room.
+pub fn day_report(file: &[u8], out: &mut [u8]) -> Result<usize, u8> {
+    let (gas_day, day) = read(file)?;
     if out.len() < TEXT_ROOM {
-        return 0;
+        return Err(14);
     }
     let mut text = Text { out, len: 0 };
-    if let Err(number) = report(file, &mut text) {
-        text.line(b"refused", &[number as i64]);
-    }
-    text.len
+    day.print(gas_day, &mut text);
+    Ok(text.len)
 }
 
-fn report(file: &[u8], text: &mut Text) -> Result<(), u8> {
+fn read(file: &[u8]) -> Result<(u32, Day), u8> {
     if !is_well_formed(file) {
         return Err(13);
     }
@@ -58,8 +58,7 @@ fn report(file: &[u8], text: &mut Text) -> Result<(), u8> {
         day.enter(&file[start..end])?;
     }
     day.allot()?;
-    day.print(gas_day, text);
-    Ok(())
+    Ok((gas_day, day))
 }
 
 fn is_well_formed(file: &[u8]) -> bool {
@@ -120,7 +119,7 @@ impl Day {
             let kind = line[0] as usize;
             let amount = u32_at(line, 1) as u64;
             let coefficient = u16_at(line, 5) as u64;
-            if kind < 1 || kind > KINDS || amount > LIMIT || coefficient > 10_000 {
+            if !(1..=KINDS).contains(&kind) || amount > LIMIT || coefficient > 10_000 {
                 return Err(2);
             }
             let added = (amount * coefficient + 50_000) / 100_000;

@@ -1,5 +1,5 @@
-//! Day files, valid and damaged, through the proved static library beside the calculation: the same
-//! bytes, and no other byte written. See crosscheck/README.md.
+//! Day files, valid and damaged, through the proved library beside the calculation: the same bytes or
+//! the same refusal, and no other byte written. See crosscheck/README.md.
 
 mod proved;
 
@@ -43,33 +43,48 @@ fn answer(report: &str) -> String {
     if first.starts_with("point") { "point" } else { first }.to_string()
 }
 
+/// Document 01's number for a buffer without the room.
+const SHORT_BUFFER: u8 = 14;
+
+/// The number of a refusal, if the report is one.
+fn refusal(report: &str) -> Option<u8> {
+    report.strip_prefix("refused ").map(|number| number.trim().parse().expect("a number"))
+}
+
 struct Memory {
     file: Fenced,
     out: Fenced,
 }
 
 impl Memory {
-    /// The library's answer to a file, in a buffer with the room and in one without it.
+    /// The library's answer to a file, in a buffer with the room and in one without it: the file's
+    /// own refusal comes first.
     fn check(&mut self, i: usize, bytes: &[u8], report: &str) -> Result<(), String> {
+        let wanted = match refusal(report) {
+            None => Ok(report.as_bytes()),
+            Some(number) => Err(number),
+        };
         let roomy = [ROOM, ROOM + 1, ROOM + i % 2_000][i % 3];
-        self.call(bytes, roomy, report.as_bytes())?;
+        self.call(bytes, roomy, wanted)?;
         let short = [ROOM - 1, 0, 1, report.len(), i % ROOM][i % 5];
-        self.call(bytes, short, b"")
+        self.call(bytes, short, wanted.and(Err(SHORT_BUFFER)))
     }
 
     /// One call: it writes what it should at the start of the buffer, and nothing else.
-    fn call(&mut self, bytes: &[u8], room: usize, wanted: &[u8]) -> Result<(), String> {
+    fn call(&mut self, bytes: &[u8], room: usize, wanted: Result<&[u8], u8>) -> Result<(), String> {
         let file = self.file.last(bytes.len());
         file.copy_from_slice(bytes);
         for (i, byte) in self.out.all().iter_mut().enumerate() {
             *byte = untouched(i);
         }
-        let written = proved::day_report(file, self.out.last(room));
+        let answer = proved::day_report(file, self.out.last(room));
 
         let buffer = format!("a buffer of {room} bytes");
-        if written != wanted.len() || &self.out.last(room)[..written] != wanted {
-            let text = String::from_utf8_lossy(&self.out.last(room)[..written.min(room)]);
-            return Err(format!("in {buffer} the library wrote {written} bytes: {text}"));
+        let written = *answer.as_ref().unwrap_or(&0);
+        let text = &self.out.last(room)[..written.min(room)];
+        if answer.map(|_| text) != wanted {
+            let text = String::from_utf8_lossy(text);
+            return Err(format!("in {buffer} the library answers {answer:?}: {text}"));
         }
         let all = self.out.all();
         let start = all.len() - room;
