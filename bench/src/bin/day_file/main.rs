@@ -44,7 +44,7 @@ fn row(name: &str, files: &[Vec<u8>]) {
     );
 }
 
-/// Both write the same text, or refuse the file alike.
+/// Both write the same text, or give the same refusal and write nothing.
 fn compare(file: &[u8]) {
     let (mut ours, mut theirs) = ([0; 8_192], [0; 8_192]);
     let answer = proved::day_report(file, &mut ours);

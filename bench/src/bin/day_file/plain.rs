@@ -21,19 +21,9 @@ struct Day {
     offtake: u64,
 }
 
-/// Writes the report into the buffer and answers how many bytes it has, or the number of the refusal, which writes nothing: the file's own,
-/// then 14 if there is too little room.
+/// Writes the report into the buffer and answers how many bytes it has, or gives the number of a refusal and writes nothing: the file's
+/// own, then 14 if there is too little room.
 pub fn day_report(file: &[u8], out: &mut [u8]) -> Result<usize, u8> {
-    let (gas_day, day) = read(file)?;
-    if out.len() < TEXT_ROOM {
-        return Err(14);
-    }
-    let mut text = Text { out, len: 0 };
-    day.print(gas_day, &mut text);
-    Ok(text.len)
-}
-
-fn read(file: &[u8]) -> Result<(u32, Day), u8> {
     if !is_well_formed(file) {
         return Err(13);
     }
@@ -58,7 +48,12 @@ fn read(file: &[u8]) -> Result<(u32, Day), u8> {
         day.enter(&file[start..end])?;
     }
     day.allot()?;
-    Ok((gas_day, day))
+    if out.len() < TEXT_ROOM {
+        return Err(14);
+    }
+    let mut text = Text { out, len: 0 };
+    day.print(gas_day, &mut text);
+    Ok(text.len)
 }
 
 fn is_well_formed(file: &[u8]) -> bool {

@@ -1,5 +1,5 @@
-//! Day files, valid and damaged, through the proved library beside the calculation: the same bytes or
-//! the same refusal, and no other byte written. See crosscheck/README.md.
+//! Day files, valid and damaged, through the proved library beside the calculation: the same
+//! status and bytes, no other byte written, and nothing at a refusal. See crosscheck/README.md.
 
 mod proved;
 
@@ -8,6 +8,7 @@ use std::path::Path;
 use std::process::ExitCode;
 
 use crosscheck::damaged::DayFiles;
+use crosscheck::refusal::Refusal;
 use crosscheck::{day_file, files};
 use hostile::fenced::Fenced;
 use proved::ROOM;
@@ -15,6 +16,9 @@ use proved::ROOM;
 /// Longer than any file here, and than any buffer.
 const LONGEST_FILE: usize = 70_000;
 const LONGEST_BUFFER: usize = ROOM + 2_000;
+
+/// What the length holds before a call.
+const NO_LENGTH: u64 = 0xC3C3_C3C3_C3C3_C3C3;
 
 fn main() -> ExitCode {
     hostile::ended(run())
@@ -43,52 +47,53 @@ fn answer(report: &str) -> String {
     if first.starts_with("point") { "point" } else { first }.to_string()
 }
 
-/// Document 01's number for a buffer without the room.
-const SHORT_BUFFER: u8 = 14;
-
-/// The number of a refusal, if the report is one.
-fn refusal(report: &str) -> Option<u8> {
-    report.strip_prefix("refused ").map(|number| number.trim().parse().expect("a number"))
-}
-
 struct Memory {
     file: Fenced,
     out: Fenced,
 }
 
 impl Memory {
-    /// The library's answer to a file, in a buffer with the room and in one without it: the file's
-    /// own refusal comes first.
+    /// The library's answer to a file, in a buffer with the room and in one without it, where 14
+    /// comes after the file's own refusal.
     fn check(&mut self, i: usize, bytes: &[u8], report: &str) -> Result<(), String> {
-        let wanted = match refusal(report) {
-            None => Ok(report.as_bytes()),
-            Some(number) => Err(number),
-        };
         let roomy = [ROOM, ROOM + 1, ROOM + i % 2_000][i % 3];
-        self.call(bytes, roomy, wanted)?;
+        let answer = day_file::read(bytes).map(|_| report.as_bytes());
+        self.call(bytes, roomy, answer)?;
         let short = [ROOM - 1, 0, 1, report.len(), i % ROOM][i % 5];
-        self.call(bytes, short, wanted.and(Err(SHORT_BUFFER)))
+        self.call(bytes, short, answer.and(Err(Refusal::BufferTooShort)))
     }
 
-    /// One call: it writes what it should at the start of the buffer, and nothing else.
-    fn call(&mut self, bytes: &[u8], room: usize, wanted: Result<&[u8], u8>) -> Result<(), String> {
+    /// One call: it gives the status, and writes what it should at the start of the buffer and its
+    /// length, and nothing else.
+    fn call(
+        &mut self,
+        bytes: &[u8],
+        room: usize,
+        answer: Result<&[u8], Refusal>,
+    ) -> Result<(), String> {
         let file = self.file.last(bytes.len());
         file.copy_from_slice(bytes);
         for (i, byte) in self.out.all().iter_mut().enumerate() {
             *byte = untouched(i);
         }
-        let answer = proved::day_report(file, self.out.last(room));
+        let mut written = NO_LENGTH;
+        let status = proved::day_report(file, self.out.last(room), &mut written);
 
         let buffer = format!("a buffer of {room} bytes");
-        let written = *answer.as_ref().unwrap_or(&0);
-        let text = &self.out.last(room)[..written.min(room)];
-        if answer.map(|_| text) != wanted {
-            let text = String::from_utf8_lossy(text);
-            return Err(format!("in {buffer} the library answers {answer:?}: {text}"));
+        let (number, length, text) = match answer {
+            Ok(text) => (0, text.len() as u64, text),
+            Err(refusal) => (refusal.number(), NO_LENGTH, &b""[..]),
+        };
+        if (status, written) != (number, length) {
+            return Err(format!("in {buffer} status {status} and length {written}"));
+        }
+        if &self.out.last(room)[..text.len()] != text {
+            let there = String::from_utf8_lossy(&self.out.last(room)[..text.len()]);
+            return Err(format!("in {buffer} the library wrote: {there}"));
         }
         let all = self.out.all();
         let start = all.len() - room;
-        let mut others = (0..start).chain(start + written..all.len());
+        let mut others = (0..start).chain(start + text.len()..all.len());
         if let Some(place) = others.find(|&place| all[place] != untouched(place)) {
             let place = place as i64 - start as i64;
             return Err(format!("in {buffer} byte {place} was written"));
