@@ -11,7 +11,7 @@
 #include "seatpomelo.h"
 
 /* Ends the program if a call is refused. */
-static void made(const char *call, uint8_t status) {
+static void check(const char *call, uint8_t status) {
     if (status != SEATPOMELO_DONE) {
         fprintf(stderr, "%s: refused %u\n", call, (unsigned)status);
         exit(1);
@@ -23,19 +23,19 @@ int main(void) {
     const uint16_t joining[] = {7, 9, 12};
     const uint16_t users[] = {7, 7, 9, 12};
     const uint8_t kinds[] = {SEATPOMELO_READ, SEATPOMELO_TYPE_1_TOLL_34, SEATPOMELO_TYPE_2, SEATPOMELO_ESTIMATED};
-    const uint64_t consumptions[] = {300, 200, 150, 50};     /* kWh */
-    const uint64_t coefficients[] = {1000, 0, 2000, 0};      /* parts of 100,000 */
+    const uint64_t consumptions[] = {300, 200, 150, 50}; /* kWh */
+    const uint64_t coefficients[] = {1000, 0, 2000, 0};  /* parts of 100,000 */
     int64_t day[SEATPOMELO_DAY], out[SEATPOMELO_INVENTORY], amount;
     uint64_t accepted, losses, rows, within;
 
-    made("fresh", seatpomelo_fresh(day, SEATPOMELO_DAY));
-    for (size_t i = 0; i < 3; i++) made("join", seatpomelo_join(day, SEATPOMELO_DAY, joining[i]));
-    made("lines", seatpomelo_lines(day, SEATPOMELO_DAY, users, 4, kinds, 4, consumptions, 4, coefficients, 4, &accepted, &losses));
+    check("fresh", seatpomelo_fresh(day, SEATPOMELO_DAY));
+    for (size_t i = 0; i < 3; i++) check("join", seatpomelo_join(day, SEATPOMELO_DAY, joining[i]));
+    check("lines", seatpomelo_lines(day, SEATPOMELO_DAY, users, 4, kinds, 4, consumptions, 4, coefficients, 4, &accepted, &losses));
     printf("%" PRIu64 " lines, losses %" PRIu64 "\n", accepted, losses);
 
-    made("measure", seatpomelo_measure(day, SEATPOMELO_DAY, 1000, 100));
-    made("allot", seatpomelo_allot(day, SEATPOMELO_DAY));
-    made("inventory", seatpomelo_inventory(day, SEATPOMELO_DAY, out, SEATPOMELO_INVENTORY, &rows));
+    check("measure", seatpomelo_measure(day, SEATPOMELO_DAY, 1000, 100));
+    check("allot", seatpomelo_allot(day, SEATPOMELO_DAY));
+    check("inventory", seatpomelo_inventory(day, SEATPOMELO_DAY, out, SEATPOMELO_INVENTORY, &rows));
     for (uint64_t i = 0; i < rows; i++) {
         const int64_t *row = out + 5 * i;
         printf("user %" PRId64 " kind %" PRId64 ": consumption %" PRId64 ", losses %" PRId64 ", balance %" PRId64 "\n", row[0], row[1],
@@ -43,8 +43,8 @@ int main(void) {
     }
 
     /* A later measurement, and what it changes. */
-    made("measure", seatpomelo_measure(day, SEATPOMELO_DAY, 1101, 100));
-    made("revise", seatpomelo_revise(day, SEATPOMELO_DAY, &within, &amount));
+    check("measure", seatpomelo_measure(day, SEATPOMELO_DAY, 1101, 100));
+    check("revise", seatpomelo_revise(day, SEATPOMELO_DAY, &within, &amount));
     printf("revision %" PRId64 "%s\n", amount, within ? ", within tolerance" : "");
     for (int64_t s = 0; s < day[SEATPOMELO_USER_COUNT]; s++)
         printf("user %" PRId64 ": revision %" PRId64 "\n", day[SEATPOMELO_USERS + s], day[SEATPOMELO_REVISION + s]);

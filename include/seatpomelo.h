@@ -23,60 +23,60 @@ extern "C" {
 
 /* ---- Status. If several refusals apply, the lowest number decides; but a point-day that is not taken is 2 before any other test. */
 
-#define SEATPOMELO_DONE 0             /* The call was made. */
-#define SEATPOMELO_WRONG_STAGE 1      /* The stage doesn't take the call, or a stand-in finds a user joined. */
-#define SEATPOMELO_OUT_OF_RANGE 2     /* A value or list is outside its stated range, or the numbers are no point-day that is taken. */
-#define SEATPOMELO_NOT_JOINED 3       /* A line for a user not joined. */
-#define SEATPOMELO_ALREADY_JOINED 4   /* The user is already joined. */
-#define SEATPOMELO_ALL_JOINED 5       /* All 64 users are joined. */
-#define SEATPOMELO_ABOVE_LIMIT 6      /* The point-day's sum, or a computed consumption, is above 1,000,000,000; Type 2: 10^12 Wh. */
-#define SEATPOMELO_UNMEASURED 7       /* Allot or stand-in of an unmeasured point-day. */
-#define SEATPOMELO_NO_USER 8          /* Allot with no user. */
-#define SEATPOMELO_NET_TOO_LOW 9      /* Stand-in with net at most 100. */
-#define SEATPOMELO_NO_PAIR 10         /* No pair in the fifteen rows of a stand-in. */
-#define SEATPOMELO_NEGATIVE_WEIGHT 11 /* A weight is negative: revise outside tolerance, stand-in, reading split. */
-#define SEATPOMELO_AMOUNT_TOO_LARGE 12 /* A whole amount would pass 2,000,000,000 in size. */
-#define SEATPOMELO_MALFORMED 13       /* The day file is malformed. */
-#define SEATPOMELO_SHORT_BUFFER 14    /* `out` is under five numbers a row, one a day or party, or 8,192 bytes. */
-#define SEATPOMELO_NO_BASIS 15        /* No basis for an estimate. */
+#define SEATPOMELO_DONE 0                  /* The call was made. */
+#define SEATPOMELO_WRONG_STAGE 1           /* The stage doesn't take the call, or a stand-in finds a user joined. */
+#define SEATPOMELO_OUT_OF_RANGE 2          /* A value or list is outside its stated range, or the numbers are no point-day that is taken. */
+#define SEATPOMELO_NOT_JOINED 3            /* A line for a user not joined. */
+#define SEATPOMELO_ALREADY_JOINED 4        /* The user is already joined. */
+#define SEATPOMELO_ALL_JOINED 5            /* All 64 users are joined. */
+#define SEATPOMELO_ABOVE_LIMIT 6           /* The point-day's sum, or a computed consumption, is above 1,000,000,000; Type 2: 10^12 Wh. */
+#define SEATPOMELO_UNMEASURED 7            /* Allot or stand-in of an unmeasured point-day. */
+#define SEATPOMELO_NO_USER 8               /* Allot with no user. */
+#define SEATPOMELO_NET_TOO_LOW 9           /* Stand-in with net at most 100. */
+#define SEATPOMELO_NO_PAIR 10              /* No pair in the fifteen rows of a stand-in. */
+#define SEATPOMELO_NEGATIVE_WEIGHT 11      /* A weight is negative: revise outside tolerance, stand-in, reading split. */
+#define SEATPOMELO_AMOUNT_TOO_LARGE 12     /* A whole amount would pass 2,000,000,000 in size. */
+#define SEATPOMELO_MALFORMED 13            /* The day file is malformed. */
+#define SEATPOMELO_SHORT_BUFFER 14         /* `out` is under five numbers a row, one a day or party, or 8,192 bytes. */
+#define SEATPOMELO_NO_BASIS 15             /* No basis for an estimate. */
 
 /* ---- Kinds of consumption. */
 
-#define SEATPOMELO_READ 1                 /* Read. */
-#define SEATPOMELO_ESTIMATED 2            /* Telemetered but estimated. */
-#define SEATPOMELO_TYPE_1_TOLL_34 3       /* Type 1, toll 3.4. */
-#define SEATPOMELO_TYPE_1_OTHER_TOLL 4    /* Type 1, other toll. */
-#define SEATPOMELO_TYPE_2 5               /* Type 2, tolls 3.1 to 3.3. */
+#define SEATPOMELO_READ 1                  /* Read. */
+#define SEATPOMELO_ESTIMATED 2             /* Telemetered but estimated. */
+#define SEATPOMELO_TYPE_1_TOLL_34 3        /* Type 1, toll 3.4. */
+#define SEATPOMELO_TYPE_1_OTHER_TOLL 4     /* Type 1, other toll. */
+#define SEATPOMELO_TYPE_2 5                /* Type 2, tolls 3.1 to 3.3. */
 
 /* ---- Stages. Each is first entering, then allotted. */
 
-#define SEATPOMELO_PROVISIONAL 0          /* Provisional: where a fresh point-day begins; the stage that is revised. */
-#define SEATPOMELO_FINAL_PROVISIONAL 1    /* Final provisional. */
-#define SEATPOMELO_FINAL_DEFINITIVE 2     /* Final definitive: no stage follows. */
+#define SEATPOMELO_PROVISIONAL 0           /* Provisional: where a fresh point-day begins; the stage that is revised. */
+#define SEATPOMELO_FINAL_PROVISIONAL 1     /* Final provisional. */
+#define SEATPOMELO_FINAL_DEFINITIVE 2      /* Final definitive: no stage follows. */
 
 /* ---- A point-day: one point on one gas day, 1,094 numbers that the caller keeps and lends, with the places of each. */
 
-#define SEATPOMELO_DAY 1094               /* How many numbers a point-day has: the `numbers` of every call. */
-#define SEATPOMELO_STAGE 0                /* The stage. */
-#define SEATPOMELO_ALLOTTED 1             /* 0 entering, 1 allotted. */
-#define SEATPOMELO_MEASURED 2             /* 0 unmeasured, 1 measured. */
-#define SEATPOMELO_EMISSION 3             /* Emission; of an unmeasured point-day any number in range, which no call but measure changes. */
-#define SEATPOMELO_DOWNSTREAM 4           /* Downstream emission; the same. */
-#define SEATPOMELO_USER_COUNT 5           /* How many users have joined, 0 to 64. */
-#define SEATPOMELO_USERS 6                /* The 64 user numbers, in the order of joining; 0 past the last user. */
-#define SEATPOMELO_CONSUMPTION 70         /* Consumption, 320: kind k of the user at place s is number 70 + 5 s + k - 1. */
-#define SEATPOMELO_LOSSES 390             /* Losses, 320, likewise. */
-#define SEATPOMELO_BALANCE 710            /* Balance, 320, likewise. */
-#define SEATPOMELO_REVISION 1030          /* Revisions, 64, one a user. */
+#define SEATPOMELO_DAY 1094                /* How many numbers a point-day has: the `numbers` of every call. */
+#define SEATPOMELO_STAGE 0                 /* The stage. */
+#define SEATPOMELO_ALLOTTED 1              /* 0 entering, 1 allotted. */
+#define SEATPOMELO_MEASURED 2              /* 0 unmeasured, 1 measured. */
+#define SEATPOMELO_EMISSION 3              /* Emission. Of an unmeasured point-day it is in range too, and stays. */
+#define SEATPOMELO_DOWNSTREAM 4            /* Downstream emission, at most the emission; likewise. */
+#define SEATPOMELO_USER_COUNT 5            /* How many users have joined, 0 to 64. */
+#define SEATPOMELO_USERS 6                 /* The 64 user numbers, in the order of joining; 0 past the last user. */
+#define SEATPOMELO_CONSUMPTION 70          /* Consumption, 320: kind k of the user at place s is number 70 + 5 s + k - 1. */
+#define SEATPOMELO_LOSSES 390              /* Losses, 320, likewise. */
+#define SEATPOMELO_BALANCE 710             /* Balance, 320, likewise. */
+#define SEATPOMELO_REVISION 1030           /* Revisions, 64, one a user. */
 
 /* ---- Sizes. */
 
-#define SEATPOMELO_MAX_USERS 64           /* Users of a point-day. */
-#define SEATPOMELO_KINDS 5                /* Kinds of consumption. */
-#define SEATPOMELO_STAND_IN_ROWS 15       /* Rows of a stand-in. */
-#define SEATPOMELO_STAND_IN_PAIRS 960     /* Places for pairs in the lists of a stand-in: 64 a row. */
-#define SEATPOMELO_INVENTORY 1600         /* Numbers of the longest inventory: 320 rows of five. */
-#define SEATPOMELO_REPORT 8192            /* Bytes of `out` that a day report asks for. */
+#define SEATPOMELO_MAX_USERS 64            /* Users of a point-day. */
+#define SEATPOMELO_KINDS 5                 /* Kinds of consumption. */
+#define SEATPOMELO_STAND_IN_ROWS 15        /* Rows of a stand-in. */
+#define SEATPOMELO_STAND_IN_PAIRS 960      /* Places for pairs in the lists of a stand-in: 64 a row. */
+#define SEATPOMELO_INVENTORY 1600          /* Numbers of the longest inventory: 320 rows of five. */
+#define SEATPOMELO_REPORT 8192             /* Bytes of `out` that a day report asks for. */
 
 /* ---- Calls on a point-day. */
 
@@ -132,9 +132,9 @@ uint8_t seatpomelo_day_report(const uint8_t *file, size_t bytes, uint8_t *out, s
 
 /* ---- Calendar. Gas days are counted from 0, 1 January 2016, to 30,680, the end of 2099. Holidays: up to 2,000 rising gas days. */
 
-#define SEATPOMELO_WORKING_DAY 0          /* A working day. */
-#define SEATPOMELO_SATURDAY 1             /* A Saturday that is no holiday. */
-#define SEATPOMELO_SUNDAY_OR_HOLIDAY 2    /* A Sunday or a holiday. */
+#define SEATPOMELO_WORKING_DAY 0           /* A working day. */
+#define SEATPOMELO_SATURDAY 1              /* A Saturday that is no holiday. */
+#define SEATPOMELO_SUNDAY_OR_HOLIDAY 2     /* A Sunday or a holiday. */
 
 /* The type of a gas day. */
 uint8_t seatpomelo_day_type(uint32_t day, const uint32_t *holidays, size_t holiday_count, uint64_t *day_type);
@@ -145,13 +145,13 @@ uint8_t seatpomelo_month(uint32_t day, const uint32_t *holidays, size_t holiday_
 
 /* ---- Consumption of a supply point, in kWh. Flows, readings and month consumption: 0 to 1,000,000,000 kWh. */
 
-#define SEATPOMELO_OTHER_TOLL 0           /* Another toll than 3.4. */
-#define SEATPOMELO_TOLL_34 1              /* Toll 3.4. */
+#define SEATPOMELO_OTHER_TOLL 0            /* Another toll than 3.4. */
+#define SEATPOMELO_TOLL_34 1               /* Toll 3.4. */
 
-#define SEATPOMELO_NOTHING 0              /* A day of a history without a value; its number in `values` is not looked at. */
-#define SEATPOMELO_REAL_READING 1         /* A real reading. */
-#define SEATPOMELO_ESTIMATED_READING 2    /* An estimated one. */
-#define SEATPOMELO_OWN_VALUE 3            /* The user's own value. */
+#define SEATPOMELO_NOTHING 0               /* A day of a history without a value; its number in `values` is not looked at. */
+#define SEATPOMELO_REAL_READING 1          /* A real reading. */
+#define SEATPOMELO_ESTIMATED_READING 2     /* An estimated one. */
+#define SEATPOMELO_OWN_VALUE 3             /* The user's own value. */
 
 /* Telemetered. reading, own (the user's own value), yearly (Q_a, kWh a year) and daily (Q_d, kWh a day) are optional; factor is f_c, 0 to
    1,000 thousandths. The history, nearest day first, is two lists of one length, 0 to 400 and no more than `day`: tags and values (kWh).

@@ -48,6 +48,18 @@ impl Kind {
     pub fn number(self) -> u8 {
         self as u8
     }
+
+    /// The kind of a number, as a day file has it; none of others than 1 to 5.
+    ///
+    /// ```
+    /// use seatpomelo::Kind;
+    ///
+    /// assert_eq!(Kind::from_number(5), Some(Kind::Type2));
+    /// assert_eq!(Kind::from_number(6), None);
+    /// ```
+    pub fn from_number(number: u8) -> Option<Kind> {
+        Kind::ALL.into_iter().find(|kind| kind.number() == number)
+    }
 }
 
 /// A stage, by its number. Each is first entering, then allotted.
