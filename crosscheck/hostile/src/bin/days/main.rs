@@ -126,8 +126,9 @@ impl Memory {
             };
             let written = value.map_or(0, |_| 1);
             untouched(memory, written, written, "a value")?;
-            if let Some(&value) = value {
-                same_numbers(memory.last_numbers(1), &[value])?;
+            let given: i64 = memory.last_numbers(1)[0];
+            if value.is_some_and(|&value| value != given) {
+                return Err(format!("the library's values have {given}, not {wanted:?}"));
             }
         }
         Ok(())
