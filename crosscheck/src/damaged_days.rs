@@ -35,17 +35,16 @@ impl Iterator for DamagedDays {
 
     fn next(&mut self) -> Option<DamagedDay> {
         let rng = &mut self.rng;
-        let value = rng.next_u64() as i64;
         let numbers = match self.loaded.next() {
-            Some(day) => plain::numbers(value, &day),
-            None => damaged(value, rng),
+            Some(day) => plain::numbers(&day),
+            None => damaged(rng),
         };
         let calls = plain_calls::every_call(&numbers, rng);
         Some(DamagedDay { numbers, calls })
     }
 }
 
-fn damaged(value: i64, rng: &mut Rng) -> Vec<i64> {
+fn damaged(rng: &mut Rng) -> Vec<i64> {
     let mut day = valid_day(rng);
     if rng.one_in(2) {
         bring_to_a_bound(&mut day, rng);
@@ -53,7 +52,10 @@ fn damaged(value: i64, rng: &mut Rng) -> Vec<i64> {
             bring_to_a_bound(&mut day, rng);
         }
     }
-    let mut numbers = plain::numbers(value, &day);
+    let mut numbers = plain::numbers(&day);
+    if day.measurement.is_none() && rng.one_in(2) {
+        store_an_emission(&mut numbers, rng);
+    }
     if rng.one_in(3) {
         change_a_number(&mut numbers, rng);
         if rng.one_in(4) {
@@ -310,7 +312,7 @@ fn place(numbers: &[i64], rng: &mut Rng) -> usize {
     let joined = numbers[COUNT].clamp(1, MAX_USERS as i64) as usize;
     let (user, kind) = (rng.below(joined), rng.below(KINDS));
     match rng.below(8) {
-        0 => 1 + rng.below(COUNT),
+        0 => rng.below(COUNT + 1),
         1 => USERS_AT + user,
         2 => REVISION_AT + user,
         3 => rng.below(NUMBERS),
@@ -334,6 +336,14 @@ fn change_the_count(numbers: &mut [i64], rng: &mut Rng) {
         2 => count | rng.pick(&[1 << 8, 1 << 16, 1 << 32, i64::MIN]),
         _ => rng.pick(&past),
     };
+}
+
+/// Of a point-day that is not measured: within the limits, or past them.
+fn store_an_emission(numbers: &mut [i64], rng: &mut Rng) {
+    let most = MAX_ENERGY as i64;
+    let emission = rng.pick(&[1, 5, 1_000, most, most, most + 1, 2 * most, -1]);
+    numbers[plain::EMISSION] = emission;
+    numbers[plain::DOWNSTREAM] = rng.pick(&[0, 0, 1, emission, emission, emission + 1, -1]);
 }
 
 fn change_the_head(numbers: &mut [i64], rng: &mut Rng) {
@@ -361,10 +371,11 @@ mod tests {
                 *answers.entry((call.name(), answer)).or_insert(0) += 1;
             }
         }
-        let all: [(&str, &[u8]); 9] = [
+        let all: [(&str, &[u8]); 10] = [
             ("fresh", &[0, 2]),
             ("join", &[0, 1, 2, 4, 5]),
             ("line", &[0, 1, 2, 3, 6]),
+            ("lines", &[0, 1, 2, 3, 6]),
             ("measure", &[0, 1, 2]),
             ("allot", &[0, 1, 2, 7, 8]),
             ("revise", &[0, 1, 2, 11]),

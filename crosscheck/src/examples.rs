@@ -93,7 +93,7 @@ fn well_formed() -> Vec<Example> {
             "As many users as a point-day takes.",
             changed(|file| file.sections = sections(MAX_USERS)),
         ),
-        example("largest-file", "65,536 bytes: three users with 9,351 lines.", largest_file(0)),
+        example("largest-file", "65,536 bytes: three users with 9,355 lines.", largest_file(0)),
     ]
 }
 
@@ -217,8 +217,10 @@ fn refused_by_calls() -> Vec<Example> {
 
 fn readme() -> String {
     let mut text = String::from(
-        "# Day files\n\nWhat `dayreport` prints of each file, also in NAME.out. The files and this page are written \
-         by\n`crosscheck write` and checked by `crosscheck confirm`.\n",
+        "# Examples\n\n`day.c` is a first program in C, and `rust/examples/day.rs` the same in Rust: a day from its \
+         lines to its\ninventory and its revision. Both print `day.out`.\n\n## Day files\n\nWhat `dayreport` prints \
+         of each file, also in NAME.out. The files and this page are written by\n`crosscheck write` and \
+         checked by `crosscheck confirm`.\n",
     );
     for example in all() {
         let report = day_file::report(&example.bytes);

@@ -58,6 +58,13 @@ impl Fenced {
         &mut all[start..]
     }
 
+    /// These numbers, the last before the fence.
+    pub fn holding<T: Number>(&mut self, numbers: &[T]) -> &[T] {
+        let last = self.last_numbers(numbers.len());
+        last.copy_from_slice(numbers);
+        last
+    }
+
     /// All of the memory as numbers.
     pub fn all_numbers<T: Number>(&mut self) -> &mut [T] {
         // SAFETY: any bytes are such a number.
@@ -70,6 +77,8 @@ impl Fenced {
 /// Plain numbers: any bytes are one.
 pub trait Number: Copy {}
 
+impl Number for u8 {}
 impl Number for u16 {}
+impl Number for u64 {}
 impl Number for usize {}
 impl Number for i64 {}

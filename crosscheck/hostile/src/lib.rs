@@ -1,4 +1,4 @@
-//! What the runs through the proved static libraries have in common.
+//! What the runs through the proved library have in common.
 
 pub mod fenced;
 

@@ -5,7 +5,7 @@ use super::call_lists::{self, distinct_users, Style};
 use crate::calls::{Row, MAX_COEFFICIENT, STAND_IN_ROWS, TOLERANCE};
 use crate::inventory;
 use crate::limits::{KINDS, MAX_AMOUNT, MAX_ENERGY, MAX_USERS, MAX_USER_NUMBER};
-use crate::plain::{self, PlainCall, PlainRows, CELLS};
+use crate::plain::{self, PlainCall, PlainLine, PlainLines, PlainRows, CELLS};
 use crate::point_day::PointDay;
 use crate::rng::Rng;
 
@@ -40,9 +40,10 @@ pub fn every_call(numbers: &[i64], rng: &mut Rng) -> Vec<PlainCall> {
         PlainCall::Fresh,
         PlainCall::Join(user(around, rng)),
         PlainCall::Join(rng.next_u64() as u16),
-        line(around, rng),
-        line(around, rng),
-        line(around, rng),
+        PlainCall::Line(line(around, rng)),
+        PlainCall::Line(line(around, rng)),
+        PlainCall::Lines(lines(around, rng)),
+        PlainCall::Lines(lines(around, rng)),
         measure(around, rng),
         measure(around, rng),
         PlainCall::Allot,
@@ -63,7 +64,7 @@ fn user(around: &Around, rng: &mut Rng) -> u16 {
     }
 }
 
-fn line(around: &Around, rng: &mut Rng) -> PlainCall {
+fn line(around: &Around, rng: &mut Rng) -> PlainLine {
     let most = MAX_COEFFICIENT as u64;
     let mut coefficient = rng.pick(&[0, 1, most, most, most / 2, 1_234]);
     // Consumption and losses together just fit, or just do not.
@@ -83,7 +84,40 @@ fn line(around: &Around, rng: &mut Rng) -> PlainCall {
             _ => (consumption, coefficient) = (u64::MAX, u64::MAX),
         }
     }
-    PlainCall::Line { user: user(around, rng), kind, consumption, coefficient }
+    PlainLine { user: user(around, rng), kind, consumption, coefficient }
+}
+
+/// Lists of lines: mostly such as fit together, often with any line somewhere among them; at times of
+/// unequal lengths.
+fn lines(around: &Around, rng: &mut Rng) -> PlainLines {
+    let count = rng.pick(&[0, 1, 2, 3, 8, 20]);
+    let mut lines: Vec<PlainLine> = (0..count).map(|_| small_line(around, count, rng)).collect();
+    if count > 0 && rng.one_in(2) {
+        lines[rng.below(count)] = line(around, rng);
+    }
+    let mut lists = PlainLines::of(&lines);
+    if rng.one_in(8) {
+        let length = rng.pick(&[0, count.saturating_sub(1), count + 1]);
+        match rng.below(4) {
+            0 => lists.users.resize(length, 1),
+            1 => lists.kinds.resize(length, 1),
+            2 => lists.consumptions.resize(length, 0),
+            _ => lists.coefficients.resize(length, 0),
+        }
+    }
+    lists
+}
+
+/// One of a few that fit together.
+fn small_line(around: &Around, count: usize, rng: &mut Rng) -> PlainLine {
+    let user = if around.users.is_empty() { 1 } else { rng.pick(&around.users) };
+    let most = around.room / (2 * count as i128);
+    PlainLine {
+        user,
+        kind: 1 + rng.below(KINDS) as u8,
+        consumption: rng.between(0, most) as u64,
+        coefficient: rng.between(0, MAX_COEFFICIENT) as u64,
+    }
 }
 
 fn measure(around: &Around, rng: &mut Rng) -> PlainCall {

@@ -1,14 +1,26 @@
 //! Calls, and point-days of 64 users in which they are made.
 
+use std::rc::Rc;
+
 use bench::Random;
 
 pub const USERS: usize = 64;
 pub const KINDS: usize = 5;
 pub const CELLS: usize = USERS * KINDS;
 pub const ROWS: usize = 15;
+/// Lines that are entered at once.
+pub const MANY: usize = 10_000;
 
 /// A point-day in plain numbers.
-pub type Numbers = [i64; 1095];
+pub type Numbers = [i64; 1094];
+
+/// What calls answer: a call writes those that it has.
+#[derive(Clone, Debug, Default, PartialEq)]
+pub struct Values {
+    pub first: u64,
+    pub second: u64,
+    pub amount: i64,
+}
 
 #[derive(Clone)]
 pub struct Line {
@@ -16,6 +28,24 @@ pub struct Line {
     pub kind: u8,
     pub consumption: u64,
     pub coefficient: u64,
+}
+
+/// Many lines, one number of each list a line.
+#[derive(Default)]
+pub struct LineLists {
+    pub users: Vec<u16>,
+    pub kinds: Vec<u8>,
+    pub consumptions: Vec<u64>,
+    pub coefficients: Vec<u64>,
+}
+
+impl LineLists {
+    pub fn push(&mut self, line: Line) {
+        self.users.push(line.user);
+        self.kinds.push(line.kind);
+        self.consumptions.push(line.consumption);
+        self.coefficients.push(line.coefficient);
+    }
 }
 
 /// The rows of a stand-in: pair j of row i stands at 64 i + j.
@@ -46,6 +76,7 @@ pub enum Call {
     Fresh,
     Join(u16),
     Line(Line),
+    Lines(Rc<LineLists>),
     Measure(u64, u64),
     Allot,
     Revise,
@@ -73,6 +104,23 @@ pub fn line(users: &[u16], random: &mut Random) -> Line {
         consumption: random.below(2_000_000),
         coefficient: random.below(10_001),
     }
+}
+
+/// Ten thousand lines that fit into one point-day, in a random order or user by user.
+pub fn many_lines(users: &[u16], in_order: bool, random: &mut Random) -> LineLists {
+    let mut lines: Vec<Line> = (0..MANY).map(|_| line(users, random)).collect();
+    if in_order {
+        lines.sort_by_key(|line| line.user);
+    }
+    let mut lists = LineLists::default();
+    for line in lines {
+        let consumption = line.consumption / 100;
+        lists.push(Line {
+            consumption,
+            ..line
+        });
+    }
+    lists
 }
 
 /// Rows of which the first few are empty and the others hold 64 pairs.

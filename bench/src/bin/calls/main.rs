@@ -5,13 +5,16 @@ mod plain;
 mod proved;
 
 use std::hint::black_box;
+use std::rc::Rc;
 
 use bench::Random;
-use cases::{Call, Numbers, CELLS, USERS};
+use cases::{Call, LineLists, Numbers, Values, CELLS, USERS};
 
 const CASES: usize = 16;
 const ROUNDS: usize = 2_000;
 const WALKS: usize = 400;
+
+const NUMBERS: usize = 1094;
 
 /// Five numbers for each user and kind.
 const ROOM: usize = 5 * CELLS;
@@ -30,32 +33,54 @@ fn main() {
     println!("|---|---|---|---|");
     for (name, answer, make) in TABLE {
         let cases: Vec<Case> = (0..CASES).map(|_| make(&mut random)).collect();
-        for case in &cases {
-            assert_eq!(both(&mut case.day.clone(), &case.call), answer);
-        }
-        let (mut ours, mut theirs) = ([0; ROOM], [0; ROOM]);
-        let (proved, plain) = bench::best_of_states(
-            ROUNDS,
-            &cases,
-            |case| {
-                black_box(proved::call(
-                    black_box(&mut case.day),
-                    &case.call,
-                    &mut ours,
-                ));
-            },
-            |case| {
-                black_box(plain::call(
-                    black_box(&mut case.day),
-                    &case.call,
-                    &mut theirs,
-                ));
-            },
-        );
-        println!(
-            "| {name} | {proved:.0} | {plain:.0} | {:.2} |",
-            proved / plain
-        );
+        time(name, answer, &cases, ROUNDS, 1);
+    }
+    println!();
+    println!("| 10,000 lines at once | proved, ns a line | Rust, ns a line | ratio |");
+    println!("|---|---|---|---|");
+    for (name, in_order) in [("user by user", true), ("in a random order", false)] {
+        let cases: Vec<Case> = (0..4).map(|_| entered(in_order, &mut random)).collect();
+        time(name, 0, &cases, ROUNDS / 10, cases::MANY);
+    }
+}
+
+/// Prints the time of a call, or of each of so many lines in it.
+fn time(name: &str, answer: u8, cases: &[Case], rounds: usize, lines: usize) {
+    for case in cases {
+        assert_eq!(both(&mut case.day.clone(), &case.call), answer);
+    }
+    let (proved, plain) = bench::best_of_states(rounds, cases, run(proved::call), run(plain::call));
+    let (proved, plain) = (proved / lines as f64, plain / lines as f64);
+    let digits = if lines == 1 { 0 } else { 1 };
+    println!(
+        "| {name} | {proved:.digits$} | {plain:.digits$} | {:.2} |",
+        proved / plain
+    );
+}
+
+/// Makes a call of a case, and keeps the compiler from leaving it out.
+fn run(call: fn(&mut Numbers, &Call, &mut Values, &mut [i64]) -> u8) -> impl FnMut(&mut Case) {
+    let mut out = [0; ROOM];
+    let mut values = Values::default();
+    move |case| {
+        let day = black_box(&mut case.day);
+        black_box(call(day, &case.call, &mut values, &mut out));
+        black_box((&mut values, &mut out));
+    }
+}
+
+/// Many lines on a point-day of 64 users without lines.
+fn entered(in_order: bool, random: &mut Random) -> Case {
+    let users = cases::user_numbers(USERS, random);
+    let mut day = [0; NUMBERS];
+    both(&mut day, &Call::Fresh);
+    for &user in &users {
+        assert_eq!(both(&mut day, &Call::Join(user)), 0);
+    }
+    let lines = cases::many_lines(&users, in_order, random);
+    Case {
+        day,
+        call: Call::Lines(Rc::new(lines)),
     }
 }
 
@@ -108,7 +133,7 @@ const TABLE: [Row; 12] = [
     }),
     ("measure refused: 2, 65 users", 2, |random| {
         let mut day = day_of(USERS, random).1;
-        day[6] = 65;
+        day[5] = 65;
         Case {
             day,
             call: Call::Measure(1_000, 0),
@@ -119,7 +144,7 @@ const TABLE: [Row; 12] = [
 /// The users and the numbers of a point-day with so many users, measured and entering.
 fn day_of(users: usize, random: &mut Random) -> (Vec<u16>, Numbers) {
     let (users, calls) = cases::entering(users, random);
-    let mut day = [0; 1095];
+    let mut day = [0; NUMBERS];
     for call in &calls {
         assert_eq!(both(&mut day, call), 0);
     }
@@ -135,7 +160,7 @@ fn allotted(random: &mut Random) -> Numbers {
 /// A revise of an allotted point-day whose net has risen.
 fn revised(random: &mut Random, rise: i64) -> Case {
     let mut day = allotted(random);
-    let emission = (day[4] + rise) as u64;
+    let emission = (day[3] + rise) as u64;
     let measure = Call::Measure(emission, 0);
     assert_eq!(both(&mut day, &measure), 0);
     Case {
@@ -146,7 +171,7 @@ fn revised(random: &mut Random, rise: i64) -> Case {
 
 /// A stand-in whose first rows are empty.
 fn stood_in(empty: usize, random: &mut Random) -> Case {
-    let mut day = [0; 1095];
+    let mut day = [0; NUMBERS];
     both(&mut day, &Call::Fresh);
     assert_eq!(both(&mut day, &Call::Measure(500_000_000, 0)), 0);
     Case {
@@ -155,7 +180,7 @@ fn stood_in(empty: usize, random: &mut Random) -> Case {
     }
 }
 
-/// The call, proved and plain: both give the same answer, the same numbers and the same rows.
+/// The call, proved and plain: both give the same answer, the same values, numbers and rows.
 fn both(day: &mut Numbers, call: &Call) -> u8 {
     both_with_room(day, call, ROOM)
 }
@@ -164,9 +189,19 @@ fn both(day: &mut Numbers, call: &Call) -> u8 {
 fn both_with_room(day: &mut Numbers, call: &Call, room: usize) -> u8 {
     let mut theirs = *day;
     let (mut our_rows, mut their_rows) = (vec![-1; room], vec![-1; room]);
-    let answer = proved::call(day, call, &mut our_rows);
-    assert_eq!(answer, plain::call(&mut theirs, call, &mut their_rows));
+    let before = Values {
+        first: 77,
+        second: 78,
+        amount: -79,
+    };
+    let (mut ours, mut their_values) = (before.clone(), before);
+    let answer = proved::call(day, call, &mut ours, &mut our_rows);
+    assert_eq!(
+        answer,
+        plain::call(&mut theirs, call, &mut their_values, &mut their_rows)
+    );
     assert_eq!(*day, theirs);
+    assert_eq!(ours, their_values);
     assert_eq!(our_rows, their_rows);
     answer
 }
@@ -184,7 +219,7 @@ fn compare(random: &mut Random) {
 
 /// Random calls from a fresh point-day, refused ones among them; now and then on numbers of which one is wrong.
 fn walk(random: &mut Random, answers: &mut [bool]) {
-    let mut day = [0; 1095];
+    let mut day = [0; NUMBERS];
     both(&mut day, &Call::Fresh);
     let users = cases::user_numbers(8, random);
     for _ in 0..60 {
@@ -211,7 +246,11 @@ fn with_a_wrong_number(mut day: Numbers, random: &mut Random) -> Numbers {
         i64::MIN,
         i64::MAX,
     ];
-    let among = if random.below(2) == 0 { 20 } else { 1095 };
+    let among = if random.below(2) == 0 {
+        20
+    } else {
+        NUMBERS as u64
+    };
     day[random.below(among) as usize] = VALUES[random.below(11) as usize];
     day
 }
@@ -226,7 +265,8 @@ fn unused(users: &[u16]) -> u16 {
 fn any_call(users: &[u16], random: &mut Random) -> Call {
     match random.below(25) {
         0..=5 => Call::Join(users[random.below(8) as usize]),
-        6..=12 => Call::Line(any_line(users, random)),
+        6..=9 => Call::Line(any_line(users, random)),
+        10..=12 => Call::Lines(Rc::new(any_lines(users, random))),
         13..=16 => Call::Measure(random.below(1_000_000_100), random.below(1_000_000)),
         17 => Call::Measure(random.below(300), random.below(300)),
         18 => Call::Allot,
@@ -248,6 +288,27 @@ fn any_line(users: &[u16], random: &mut Random) -> cases::Line {
         _ => {}
     }
     line
+}
+
+/// Up to nine lines, sometimes in lists of unequal lengths.
+fn any_lines(users: &[u16], random: &mut Random) -> LineLists {
+    let mut lists = LineLists::default();
+    for _ in 0..random.below(10) {
+        let line = if random.below(4) == 0 {
+            any_line(users, random)
+        } else {
+            cases::line(users, random)
+        };
+        lists.push(line);
+    }
+    match random.below(20) {
+        0 => lists.users.push(1),
+        1 => lists.kinds.push(1),
+        2 => lists.consumptions.push(1),
+        3 => lists.coefficients.push(1),
+        _ => {}
+    }
+    lists
 }
 
 /// Rows of up to three pairs, sometimes with a fault.

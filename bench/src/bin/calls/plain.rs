@@ -1,86 +1,87 @@
-//! The same calls in plain Rust: the point-day read from the numbers, every condition of a taken point-day tested, the call, and the
-//! numbers written back. Written from document 01, not from the product's code.
+//! The same calls in plain Rust, in place: every condition of a taken point-day tested on the numbers, then the call's own, then the numbers
+//! that change written. Written from document 01, not from the product's code.
 
 use std::cmp::Reverse;
 
-use crate::cases::{Call, Line, Numbers, Rows, CELLS, KINDS, USERS};
+use crate::cases::{Call, LineLists, Numbers, Rows, Values, CELLS, KINDS, USERS};
 
 const LIMIT: i64 = 1_000_000_000;
 const AMOUNT: i64 = 2_000_000_000;
 const TOLERANCE: i64 = 100;
 
-const USERS_AT: usize = 7;
+const STAGE: usize = 0;
+const ALLOTTED: usize = 1;
+const MEASURED: usize = 2;
+const EMISSION: usize = 3;
+const DOWNSTREAM: usize = 4;
+const COUNT: usize = 5;
+const USERS_AT: usize = 6;
 const CONSUMPTION_AT: usize = USERS_AT + USERS;
 const LOSSES_AT: usize = CONSUMPTION_AT + CELLS;
 const BALANCE_AT: usize = LOSSES_AT + CELLS;
 const REVISION_AT: usize = BALANCE_AT + CELLS;
 
+const PROVISIONAL: i64 = 0;
+const FINAL_DEFINITIVE: i64 = 2;
+
 type Refusal = u8;
 
-#[derive(Clone, Copy, PartialEq)]
-enum Stage {
-    Provisional,
-    FinalProvisional,
-    FinalDefinitive,
-}
-
-struct PointDay {
-    stage: Stage,
-    allotted: bool,
-    /// Emission and downstream emission.
-    measurement: Option<(i64, i64)>,
+/// What the test of a point-day finds.
+struct Found {
     count: usize,
     users: [u16; USERS],
-    consumption: [i64; CELLS],
-    losses: [i64; CELLS],
-    balance: [i64; CELLS],
-    revision: [i64; USERS],
+    /// All consumption and losses.
+    offtake: i64,
+    /// The users' whole amounts.
+    wholes: [i64; USERS],
 }
 
 /// The call on a point-day in plain numbers: 0, or the number of the refusal, which writes nothing.
 /// The rows of an inventory go to `out`.
-pub fn call(numbers: &mut Numbers, call: &Call, out: &mut [i64]) -> u8 {
-    match run(numbers, call, out) {
+pub fn call(day: &mut Numbers, call: &Call, values: &mut Values, out: &mut [i64]) -> u8 {
+    match run(day, call, values, out) {
         Ok(()) => 0,
         Err(refusal) => refusal,
     }
 }
 
-fn run(numbers: &mut Numbers, call: &Call, out: &mut [i64]) -> Result<(), Refusal> {
+fn run(
+    day: &mut Numbers,
+    call: &Call,
+    values: &mut Values,
+    out: &mut [i64],
+) -> Result<(), Refusal> {
     if let Call::Fresh = call {
-        PointDay::fresh().write(numbers, 0);
+        day.fill(0);
         return Ok(());
     }
-    let Some(mut day) = PointDay::read(numbers) else {
-        return Err(2);
-    };
-    if !day.is_taken() {
-        return Err(2);
+    if let Call::Lines(_) = call {
+        (values.first, values.second) = (0, 0);
     }
-    let value = match call {
-        Call::Fresh => 0,
-        Call::Join(user) => day.join(*user)?,
-        Call::Line(line) => day.line(line)?,
-        Call::Measure(emission, downstream) => day.measure(*emission, *downstream)?,
-        Call::Allot => day.allot()?,
-        Call::Revise => day.revise()?,
-        Call::StartFinal => day.start_final()?,
-        Call::StandIn(rows) => day.stand_in(rows)?,
-        Call::Inventory => {
-            numbers[0] = day.inventory(out)?;
-            return Ok(());
+    let found = taken(day).ok_or(2)?;
+    match call {
+        Call::Fresh => Ok(()),
+        Call::Join(user) => join(day, &found, *user),
+        Call::Line(line) => {
+            let line = (line.user, line.kind, line.consumption, line.coefficient);
+            let mut offtake = found.offtake;
+            values.first = enter(day, &mut Places::new(&found), &mut offtake, line)?;
+            Ok(())
         }
-    };
-    day.write(numbers, value);
-    Ok(())
+        Call::Lines(lists) => lines(day, &found, lists, values),
+        Call::Measure(emission, downstream) => measure(day, *emission, *downstream),
+        Call::Allot => allot(day, &found),
+        Call::Revise => revise(day, &found, values),
+        Call::StartFinal => start_final(day),
+        Call::StandIn(rows) => stand_in(day, &found, rows, values),
+        Call::Inventory => inventory(day, &found, values, out),
+    }
 }
 
-fn flag(number: i64) -> Option<bool> {
-    match number {
-        0 => Some(false),
-        1 => Some(true),
-        _ => None,
-    }
+// ---- taken
+
+fn is_flag(number: i64) -> bool {
+    number == 0 || number == 1
 }
 
 fn all_between(amounts: &[i64], low: i64, high: i64) -> bool {
@@ -88,359 +89,377 @@ fn all_between(amounts: &[i64], low: i64, high: i64) -> bool {
 }
 
 fn all_zero(amounts: &[i64]) -> bool {
-    amounts.iter().all(|&x| x == 0)
+    amounts.iter().fold(0, |any, x| any | x) == 0
 }
 
-impl PointDay {
-    fn fresh() -> PointDay {
-        PointDay {
-            stage: Stage::Provisional,
-            allotted: false,
-            measurement: None,
-            count: 0,
-            users: [0; USERS],
-            consumption: [0; CELLS],
-            losses: [0; CELLS],
-            balance: [0; CELLS],
-            revision: [0; USERS],
-        }
+fn taken(day: &Numbers) -> Option<Found> {
+    let count = usize::try_from(day[COUNT]).ok().filter(|&n| n <= USERS)?;
+    let (emission, downstream) = (day[EMISSION], day[DOWNSTREAM]);
+    let right = (0..=FINAL_DEFINITIVE).contains(&day[STAGE])
+        && is_flag(day[ALLOTTED])
+        && is_flag(day[MEASURED])
+        && (0..=LIMIT).contains(&emission)
+        && (0..=emission).contains(&downstream)
+        && (day[ALLOTTED] == 0 || count > 0 && day[MEASURED] == 1)
+        && all_zero(&day[USERS_AT + count..CONSUMPTION_AT])
+        && all_zero(&day[CONSUMPTION_AT + KINDS * count..LOSSES_AT])
+        && all_zero(&day[LOSSES_AT + KINDS * count..BALANCE_AT])
+        && all_zero(&day[BALANCE_AT + KINDS * count..REVISION_AT])
+        && all_zero(&day[REVISION_AT + count..]);
+    if !right {
+        return None;
     }
+    let users = user_numbers(day, count)?;
+    let (offtake, wholes) = figures(day, count)?;
+    Some(Found {
+        count,
+        users,
+        offtake,
+        wholes,
+    })
+}
 
-    fn read(numbers: &Numbers) -> Option<PointDay> {
-        let stage = match numbers[1] {
-            0 => Stage::Provisional,
-            1 => Stage::FinalProvisional,
-            2 => Stage::FinalDefinitive,
-            _ => return None,
-        };
-        let allotted = flag(numbers[2])?;
-        let measurement = if flag(numbers[3])? {
-            Some((numbers[4], numbers[5]))
-        } else {
-            None
-        };
-        let count = usize::try_from(numbers[6]).ok()?;
-        if !all_between(&numbers[USERS_AT..CONSUMPTION_AT], 0, i64::from(u16::MAX)) {
+/// The users' numbers, if none is out of range or there twice: only one whose bucket is taken is searched among those before it.
+fn user_numbers(day: &Numbers, count: usize) -> Option<[u16; USERS]> {
+    let mut users = [0; USERS];
+    let mut marked = [false; 1024];
+    for i in 0..count {
+        let user = u16::try_from(day[USERS_AT + i])
+            .ok()
+            .filter(|&user| user != 0)?;
+        let bucket = usize::from(user % 1024);
+        if marked[bucket] && users[..i].contains(&user) {
             return None;
         }
-        let mut day = PointDay {
-            stage,
-            allotted,
-            measurement,
-            count,
-            ..PointDay::fresh()
-        };
-        for (user, &number) in day.users.iter_mut().zip(&numbers[USERS_AT..]) {
-            *user = number as u16;
+        marked[bucket] = true;
+        users[i] = user;
+    }
+    Some(users)
+}
+
+/// All consumption and losses, and the whole amounts, if figures and sums are in range. A cell is tested before it is added, so that nothing
+/// overflows.
+fn figures(day: &Numbers, count: usize) -> Option<(i64, [i64; USERS])> {
+    let most = if day[ALLOTTED] == 1 { AMOUNT } else { 0 };
+    let (mut offtake, mut everything) = (0, 0);
+    let mut wholes = [0; USERS];
+    for (user, whole) in wholes[..count].iter_mut().enumerate() {
+        *whole = day[REVISION_AT + user];
+        if !(-most..=most).contains(whole) {
+            return None;
         }
-        day.consumption
-            .copy_from_slice(&numbers[CONSUMPTION_AT..LOSSES_AT]);
-        day.losses.copy_from_slice(&numbers[LOSSES_AT..BALANCE_AT]);
-        day.balance
-            .copy_from_slice(&numbers[BALANCE_AT..REVISION_AT]);
-        day.revision.copy_from_slice(&numbers[REVISION_AT..]);
-        Some(day)
-    }
-
-    fn write(&self, numbers: &mut Numbers, value: i64) {
-        let (emission, downstream) = self.measurement.unwrap_or((0, 0));
-        numbers[0] = value;
-        numbers[1] = self.stage as i64;
-        numbers[2] = i64::from(self.allotted);
-        numbers[3] = i64::from(self.measurement.is_some());
-        numbers[4] = emission;
-        numbers[5] = downstream;
-        numbers[6] = self.count as i64;
-        for (number, &user) in numbers[USERS_AT..].iter_mut().zip(&self.users) {
-            *number = i64::from(user);
-        }
-        numbers[CONSUMPTION_AT..LOSSES_AT].copy_from_slice(&self.consumption);
-        numbers[LOSSES_AT..BALANCE_AT].copy_from_slice(&self.losses);
-        numbers[BALANCE_AT..REVISION_AT].copy_from_slice(&self.balance);
-        numbers[REVISION_AT..].copy_from_slice(&self.revision);
-    }
-
-    // ---- taken
-
-    fn is_taken(&self) -> bool {
-        let n = self.count;
-        n <= USERS
-            && self.numbers_right()
-            && self.measurement.is_none_or(|(emission, downstream)| {
-                (0..=LIMIT).contains(&emission) && (0..=emission).contains(&downstream)
-            })
-            && self.figures_right()
-            && all_zero(&self.consumption[KINDS * n..])
-            && all_zero(&self.losses[KINDS * n..])
-            && all_zero(&self.balance[KINDS * n..])
-            && all_zero(&self.revision[n..])
-            && (!self.allotted || n > 0 && self.measurement.is_some())
-    }
-
-    /// The users' figures and their sums are in range, user by user. A cell is tested before it is added, so that nothing overflows.
-    fn figures_right(&self) -> bool {
-        let most = if self.allotted { AMOUNT } else { 0 };
-        let (mut offtake, mut everything) = (0, 0);
-        for user in 0..self.count {
-            let mut whole = self.revision[user];
-            if !(-most..=most).contains(&whole) {
-                return false;
+        for i in KINDS * user..KINDS * (user + 1) {
+            let (c, l) = (day[CONSUMPTION_AT + i], day[LOSSES_AT + i]);
+            let b = day[BALANCE_AT + i];
+            let right =
+                (0..=LIMIT).contains(&c) && (0..=LIMIT).contains(&l) && (-most..=most).contains(&b);
+            if !right {
+                return None;
             }
-            for i in KINDS * user..KINDS * (user + 1) {
-                let (c, l, b) = (self.consumption[i], self.losses[i], self.balance[i]);
-                if !((0..=LIMIT).contains(&c)
-                    && (0..=LIMIT).contains(&l)
-                    && (-most..=most).contains(&b))
-                {
-                    return false;
-                }
-                offtake += c + l;
-                whole += c + l + b;
+            offtake += c + l;
+            *whole += c + l + b;
+        }
+        if whole.abs() > AMOUNT {
+            return None;
+        }
+        everything += *whole;
+    }
+    (offtake <= LIMIT && (0..=LIMIT).contains(&everything)).then_some((offtake, wholes))
+}
+
+fn net(day: &Numbers) -> Option<i64> {
+    (day[MEASURED] == 1).then(|| day[EMISSION] - day[DOWNSTREAM])
+}
+
+/// Refusal 12.
+fn bounded(mut wholes: impl Iterator<Item = i64>) -> Result<(), Refusal> {
+    if wholes.all(|whole| whole.abs() <= AMOUNT) {
+        Ok(())
+    } else {
+        Err(12)
+    }
+}
+
+// ---- the calls
+
+fn join(day: &mut Numbers, found: &Found, user: u16) -> Result<(), Refusal> {
+    if day[ALLOTTED] == 1 {
+        return Err(1);
+    }
+    if user == 0 {
+        return Err(2);
+    }
+    if found.users[..found.count].contains(&user) {
+        return Err(4);
+    }
+    if found.count == USERS {
+        return Err(5);
+    }
+    day[USERS_AT + found.count] = i64::from(user);
+    day[COUNT] += 1;
+    Ok(())
+}
+
+/// Where users stand; the last one asked for is found at once.
+struct Places<'a> {
+    users: &'a [u16],
+    last: usize,
+}
+
+impl Places<'_> {
+    fn new(found: &Found) -> Places<'_> {
+        Places {
+            users: &found.users[..found.count],
+            last: 0,
+        }
+    }
+
+    fn of(&mut self, user: u16) -> Option<usize> {
+        if self.users.get(self.last) != Some(&user) {
+            self.last = self.users.iter().position(|&u| u == user)?;
+        }
+        Some(self.last)
+    }
+}
+
+/// Adds a line, and to the sum so far; gives its losses.
+fn enter(
+    day: &mut Numbers,
+    places: &mut Places,
+    offtake: &mut i64,
+    (user, kind, consumption, coefficient): (u16, u8, u64, u64),
+) -> Result<u64, Refusal> {
+    if day[ALLOTTED] == 1 {
+        return Err(1);
+    }
+    if user == 0 || !(1..=5).contains(&kind) || consumption > LIMIT as u64 || coefficient > 10_000 {
+        return Err(2);
+    }
+    let place = places.of(user).ok_or(3)?;
+    let losses = (consumption * coefficient + 50_000) / 100_000;
+    let together = *offtake + (consumption + losses) as i64;
+    if together > LIMIT {
+        return Err(6);
+    }
+    *offtake = together;
+    let i = KINDS * place + usize::from(kind) - 1;
+    day[CONSUMPTION_AT + i] += consumption as i64;
+    day[LOSSES_AT + i] += losses as i64;
+    Ok(losses)
+}
+
+fn lines(
+    day: &mut Numbers,
+    found: &Found,
+    lists: &LineLists,
+    values: &mut Values,
+) -> Result<(), Refusal> {
+    let count = lists.users.len();
+    if [
+        lists.kinds.len(),
+        lists.consumptions.len(),
+        lists.coefficients.len(),
+    ] != [count; 3]
+    {
+        return Err(2);
+    }
+    let mut places = Places::new(found);
+    let mut offtake = found.offtake;
+    let amounts = lists.consumptions.iter().zip(&lists.coefficients);
+    for ((&user, &kind), (&consumption, &coefficient)) in
+        lists.users.iter().zip(&lists.kinds).zip(amounts)
+    {
+        let line = (user, kind, consumption, coefficient);
+        values.second += enter(day, &mut places, &mut offtake, line)?;
+        values.first += 1;
+    }
+    Ok(())
+}
+
+fn measure(day: &mut Numbers, emission: u64, downstream: u64) -> Result<(), Refusal> {
+    if day[ALLOTTED] == 1 && day[STAGE] != PROVISIONAL {
+        return Err(1);
+    }
+    if emission > LIMIT as u64 || downstream > emission {
+        return Err(2);
+    }
+    day[MEASURED] = 1;
+    day[EMISSION] = emission as i64;
+    day[DOWNSTREAM] = downstream as i64;
+    Ok(())
+}
+
+fn allot(day: &mut Numbers, found: &Found) -> Result<(), Refusal> {
+    if day[ALLOTTED] == 1 {
+        return Err(1);
+    }
+    let net = net(day).ok_or(7)?;
+    let n = found.count;
+    if n == 0 {
+        return Err(8);
+    }
+    let (consumption, rest) = day[CONSUMPTION_AT..].split_at_mut(CELLS);
+    let (losses, rest) = rest.split_at_mut(CELLS);
+    let balance = &mut rest[..CELLS];
+    // Kinds 2 to 5, or all kinds if nobody has any of those.
+    let mut weights = [0u64; USERS];
+    let mut from = 1;
+    for first in [1, 0] {
+        from = first;
+        for (user, weight) in weights[..n].iter_mut().enumerate() {
+            let cells = KINDS * user + from..KINDS * (user + 1);
+            let sum = |xs: &[i64]| xs[cells.clone()].iter().sum::<i64>() as u64;
+            *weight = sum(consumption) + sum(losses);
+        }
+        if weights[..n].iter().any(|&weight| weight > 0) {
+            break;
+        }
+    }
+    let mut shares = [0i64; USERS];
+    split(
+        net - found.offtake,
+        &weights[..n],
+        &found.users[..n],
+        &mut shares,
+    );
+    bounded(
+        found.wholes[..n]
+            .iter()
+            .zip(shares)
+            .map(|(whole, share)| whole + share),
+    )?;
+    for (user, &share) in shares[..n].iter().enumerate() {
+        let at = KINDS * user;
+        if weights[user] == 0 {
+            balance[at] = share;
+        } else {
+            let mut cells = [0u64; KINDS];
+            for kind in from..KINDS {
+                cells[kind] = (consumption[at + kind] + losses[at + kind]) as u64;
             }
-            if whole.abs() > AMOUNT {
-                return false;
-            }
-            everything += whole;
+            split(
+                share,
+                &cells,
+                &[1, 2, 3, 4, 5],
+                &mut balance[at..at + KINDS],
+            );
         }
-        offtake <= LIMIT && (0..=LIMIT).contains(&everything)
     }
+    day[ALLOTTED] = 1;
+    Ok(())
+}
 
-    /// No number 0 or twice among the users, and none past the last.
-    fn numbers_right(&self) -> bool {
-        let mut seen = [0u64; 1024];
-        let (users, rest) = self.users.split_at(self.count);
-        users.iter().all(|&user| {
-            let (word, bit) = (usize::from(user) / 64, 1 << (user % 64));
-            let new = seen[word] & bit == 0;
-            seen[word] |= bit;
-            user != 0 && new
-        }) && rest.iter().all(|&user| user == 0)
+fn revise(day: &mut Numbers, found: &Found, values: &mut Values) -> Result<(), Refusal> {
+    if day[ALLOTTED] == 0 || day[STAGE] != PROVISIONAL {
+        return Err(1);
     }
-
-    fn offtake(&self) -> i64 {
-        self.consumption.iter().sum::<i64>() + self.losses.iter().sum::<i64>()
-    }
-
-    fn wholes(&self) -> [i64; USERS] {
-        let mut wholes = self.revision;
-        for (user, whole) in wholes.iter_mut().enumerate() {
-            for i in KINDS * user..KINDS * (user + 1) {
-                *whole += self.consumption[i] + self.losses[i] + self.balance[i];
-            }
-        }
-        wholes
-    }
-
-    fn any_too_large(&self) -> bool {
-        !all_between(&self.wholes(), -AMOUNT, AMOUNT)
-    }
-
-    fn slot_of(&self, user: u16) -> Option<usize> {
-        self.users[..self.count].iter().position(|&u| u == user)
-    }
-
-    fn net(&self) -> Option<i64> {
-        self.measurement
-            .map(|(emission, downstream)| emission - downstream)
-    }
-
-    // ---- the calls
-
-    fn join(&mut self, user: u16) -> Result<i64, Refusal> {
-        if self.allotted {
-            return Err(1);
-        }
-        if user == 0 {
-            return Err(2);
-        }
-        if self.slot_of(user).is_some() {
-            return Err(4);
-        }
-        if self.count == USERS {
-            return Err(5);
-        }
-        self.users[self.count] = user;
-        self.count += 1;
-        Ok(0)
-    }
-
-    fn line(&mut self, line: &Line) -> Result<i64, Refusal> {
-        if self.allotted {
-            return Err(1);
-        }
-        if line.user == 0
-            || !(1..=5).contains(&line.kind)
-            || line.consumption > LIMIT as u64
-            || line.coefficient > 10_000
-        {
-            return Err(2);
-        }
-        let slot = self.slot_of(line.user).ok_or(3)?;
-        let consumption = line.consumption as i64;
-        let losses = ((line.consumption * line.coefficient + 50_000) / 100_000) as i64;
-        if self.offtake() + consumption + losses > LIMIT {
-            return Err(6);
-        }
-        let i = KINDS * slot + usize::from(line.kind) - 1;
-        self.consumption[i] += consumption;
-        self.losses[i] += losses;
-        Ok(losses)
-    }
-
-    fn measure(&mut self, emission: u64, downstream: u64) -> Result<i64, Refusal> {
-        if self.allotted && self.stage != Stage::Provisional {
-            return Err(1);
-        }
-        if emission > LIMIT as u64 || downstream > emission {
-            return Err(2);
-        }
-        self.measurement = Some((emission as i64, downstream as i64));
-        Ok(0)
-    }
-
-    fn allot(&mut self) -> Result<i64, Refusal> {
-        if self.allotted {
-            return Err(1);
-        }
-        let net = self.net().ok_or(7)?;
-        if self.count == 0 {
-            return Err(8);
-        }
-        let n = self.count;
-        let balance = net - self.offtake();
-        let mut cells = [0u64; CELLS];
-        for (cell, (c, l)) in cells
-            .iter_mut()
-            .zip(self.consumption.iter().zip(&self.losses))
-        {
-            *cell = (c + l) as u64;
-        }
-        let estimated = |user: &[u64]| user[1..].iter().sum::<u64>();
-        if cells.chunks_exact(KINDS).any(|user| estimated(user) > 0) {
-            for user in cells.chunks_exact_mut(KINDS) {
-                user[0] = 0;
-            }
-        }
-        let mut weights = [0u64; USERS];
-        for (weight, user) in weights.iter_mut().zip(cells.chunks_exact(KINDS)) {
-            *weight = user.iter().sum();
-        }
-        let mut shares = [0i64; USERS];
-        split(balance, &weights[..n], &self.users[..n], &mut shares);
-        for (user, &share) in shares[..n].iter().enumerate() {
-            let kinds = KINDS * user..KINDS * (user + 1);
-            if weights[user] == 0 {
-                self.balance[kinds.start] = share;
-            } else {
-                let out = &mut self.balance[kinds.clone()];
-                split(share, &cells[kinds], &[1, 2, 3, 4, 5], out);
-            }
-        }
-        if self.any_too_large() {
-            return Err(12);
-        }
-        self.allotted = true;
-        Ok(0)
-    }
-
-    fn revise(&mut self) -> Result<i64, Refusal> {
-        if !self.allotted || self.stage != Stage::Provisional {
-            return Err(1);
-        }
-        let wholes = self.wholes();
-        let rest = self.net().unwrap_or(0) - wholes.iter().sum::<i64>();
-        if rest.abs() <= TOLERANCE {
-            return Ok(rest);
-        }
+    let wholes = &found.wholes[..found.count];
+    let rest = net(day).unwrap_or(0) - wholes.iter().sum::<i64>();
+    if rest.abs() > TOLERANCE {
         if wholes.iter().any(|&whole| whole < 0) {
             return Err(11);
         }
-        let n = self.count;
-        let weights = wholes.map(|whole| whole as u64);
+        let weights = found.wholes.map(|whole| whole as u64);
+        let n = found.count;
         let mut shares = [0i64; USERS];
-        split(rest, &weights[..n], &self.users[..n], &mut shares);
-        for (revision, share) in self.revision.iter_mut().zip(shares) {
+        split(rest, &weights[..n], &found.users[..n], &mut shares);
+        bounded(
+            wholes
+                .iter()
+                .zip(shares)
+                .map(|(whole, share)| whole + share),
+        )?;
+        for (revision, share) in day[REVISION_AT..].iter_mut().zip(&shares[..n]) {
             *revision += share;
         }
-        if self.any_too_large() {
-            return Err(12);
-        }
-        Ok(rest)
     }
+    values.first = u64::from(rest.abs() <= TOLERANCE);
+    values.amount = rest;
+    Ok(())
+}
 
-    fn start_final(&mut self) -> Result<i64, Refusal> {
-        if !self.allotted {
-            return Err(1);
-        }
-        self.stage = match self.stage {
-            Stage::Provisional => Stage::FinalProvisional,
-            Stage::FinalProvisional => Stage::FinalDefinitive,
-            Stage::FinalDefinitive => return Err(1),
-        };
-        self.allotted = false;
-        self.consumption.fill(0);
-        self.losses.fill(0);
-        self.balance.fill(0);
-        self.revision.fill(0);
-        Ok(0)
+fn start_final(day: &mut Numbers) -> Result<(), Refusal> {
+    if day[ALLOTTED] == 0 || day[STAGE] == FINAL_DEFINITIVE {
+        return Err(1);
     }
+    day[STAGE] += 1;
+    day[ALLOTTED] = 0;
+    day[CONSUMPTION_AT..].fill(0);
+    Ok(())
+}
 
-    fn stand_in(&mut self, rows: &Rows) -> Result<i64, Refusal> {
-        if self.stage != Stage::Provisional || self.allotted || self.count > 0 {
-            return Err(1);
-        }
-        if !rows.rows().all(row_right) {
-            return Err(2);
-        }
-        let net = self.net().ok_or(7)?;
-        if net <= TOLERANCE {
-            return Err(9);
-        }
-        let (row, (users, amounts)) = rows
-            .rows()
-            .map(|row| row.expect("all rows are right"))
-            .enumerate()
-            .find(|(_, (users, _))| !users.is_empty())
-            .ok_or(10)?;
-        if amounts.iter().any(|&amount| amount < 0) {
-            return Err(11);
-        }
-        let n = users.len();
-        let mut weights = [0u64; USERS];
-        for (weight, &amount) in weights.iter_mut().zip(amounts) {
-            *weight = amount as u64;
-        }
-        split(net, &weights[..n], users, &mut self.revision);
-        self.users[..n].copy_from_slice(users);
-        self.count = n;
-        if self.any_too_large() {
-            return Err(12);
-        }
-        self.allotted = true;
-        Ok(row as i64 + 1)
+fn stand_in(
+    day: &mut Numbers,
+    found: &Found,
+    rows: &Rows,
+    values: &mut Values,
+) -> Result<(), Refusal> {
+    if day[STAGE] != PROVISIONAL || day[ALLOTTED] == 1 || found.count > 0 {
+        return Err(1);
     }
+    if !rows.rows().all(row_right) {
+        return Err(2);
+    }
+    let net = net(day).ok_or(7)?;
+    if net <= TOLERANCE {
+        return Err(9);
+    }
+    let (row, (users, amounts)) = rows
+        .rows()
+        .map(|row| row.expect("all rows are right"))
+        .enumerate()
+        .find(|(_, (users, _))| !users.is_empty())
+        .ok_or(10)?;
+    if amounts.iter().any(|&amount| amount < 0) {
+        return Err(11);
+    }
+    let n = users.len();
+    let mut weights = [0u64; USERS];
+    for (weight, &amount) in weights.iter_mut().zip(amounts) {
+        *weight = amount as u64;
+    }
+    let mut shares = [0i64; USERS];
+    split(net, &weights[..n], users, &mut shares);
+    bounded(shares[..n].iter().copied())?;
+    for (number, &user) in day[USERS_AT..].iter_mut().zip(users) {
+        *number = i64::from(user);
+    }
+    day[REVISION_AT..REVISION_AT + n].copy_from_slice(&shares[..n]);
+    day[COUNT] = n as i64;
+    day[ALLOTTED] = 1;
+    values.first = row as u64 + 1;
+    Ok(())
+}
 
-    fn inventory(&self, out: &mut [i64]) -> Result<i64, Refusal> {
-        if !self.allotted {
-            return Err(1);
-        }
-        let is_row = |&i: &usize| (self.consumption[i] | self.losses[i] | self.balance[i]) != 0;
-        let cells = KINDS * self.count;
-        let rows = (0..cells).filter(is_row).count();
-        if out.len() < 5 * rows {
-            return Err(14);
-        }
-        for (row, i) in out.chunks_exact_mut(5).zip((0..cells).filter(is_row)) {
-            row.copy_from_slice(&[
-                i64::from(self.users[i / KINDS]),
-                (i % KINDS) as i64 + 1,
-                self.consumption[i],
-                self.losses[i],
-                self.balance[i],
-            ]);
-        }
-        Ok(rows as i64)
+fn inventory(
+    day: &Numbers,
+    found: &Found,
+    values: &mut Values,
+    out: &mut [i64],
+) -> Result<(), Refusal> {
+    if day[ALLOTTED] == 0 {
+        return Err(1);
     }
+    let consumption = &day[CONSUMPTION_AT..LOSSES_AT];
+    let losses = &day[LOSSES_AT..BALANCE_AT];
+    let balance = &day[BALANCE_AT..REVISION_AT];
+    let is_row = |&i: &usize| (consumption[i] | losses[i] | balance[i]) != 0;
+    let cells = KINDS * found.count;
+    let rows = (0..cells).filter(is_row).count();
+    if out.len() < 5 * rows {
+        return Err(14);
+    }
+    for (row, i) in out.chunks_exact_mut(5).zip((0..cells).filter(is_row)) {
+        row.copy_from_slice(&[
+            i64::from(found.users[i / KINDS]),
+            (i % KINDS) as i64 + 1,
+            consumption[i],
+            losses[i],
+            balance[i],
+        ]);
+    }
+    values.first = rows as u64;
+    Ok(())
 }
 
 /// At most 64 pairs, the numbers rising from 1, the amounts in range.

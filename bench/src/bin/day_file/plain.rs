@@ -114,7 +114,7 @@ impl Day {
             let kind = line[0] as usize;
             let amount = u32_at(line, 1) as u64;
             let coefficient = u16_at(line, 5) as u64;
-            if kind < 1 || kind > KINDS || amount > LIMIT || coefficient > 10_000 {
+            if !(1..=KINDS).contains(&kind) || amount > LIMIT || coefficient > 10_000 {
                 return Err(2);
             }
             let added = (amount * coefficient + 50_000) / 100_000;

@@ -1,27 +1,12 @@
-//! The proved library, as a Rust program calls it.
+//! The proved library, as a Rust program calls it on its own numbers.
 
-#[path = "../../../../include/seatpomelo.rs"]
-#[allow(dead_code)]
-mod seatpomelo;
+use seatpomelo::raw;
 
-use seatpomelo::seatpomelo_day_report;
-
-/// Writes the report on a day file into a buffer of at least 8,192 bytes, and answers how many bytes it has, or the number of the file's
-/// refusal. Any file will do.
+/// Writes the report on a day file into a buffer and answers how many bytes it has, or document 01's number of the refusal. Any file will do.
 pub fn day_report(file: &[u8], out: &mut [u8]) -> Result<usize, u8> {
     let mut written = 0;
-    // SAFETY: each pointer comes with the length of its slice, and what they point to lives through the call.
-    let status = unsafe {
-        seatpomelo_day_report(
-            file.as_ptr(),
-            file.len(),
-            out.as_mut_ptr(),
-            out.len(),
-            &mut written,
-        )
-    };
-    match status {
+    match raw::day_report(file, out, &mut written) {
         0 => Ok(written as usize),
-        number => Err(number),
+        refusal => Err(refusal),
     }
 }

@@ -1,49 +1,32 @@
-//! The proved library, as a Rust program calls it.
+//! The proved library, as a Rust program calls it on its own numbers.
+
+use seatpomelo::raw;
 
 use crate::cases::Case;
-
-#[path = "../../../../include/seatpomelo.rs"]
-#[allow(dead_code)]
-mod seatpomelo;
-
-use seatpomelo::seatpomelo_telemetered;
 
 /// What a refusal is counted from, as the plain calculation has it.
 const LIMIT: u64 = 1_000_000_000;
 
 /// The consumption, or 1,000,000,000 and document 01's number of the refusal. Any arguments will do: the call tests them itself.
 pub fn estimate(case: &Case) -> u64 {
-    let nothing: [u64; 0] = [];
-    let daily = [case.day_flow];
-    let mut consumption = 0;
-    let mut looked_at = 0;
-    // SAFETY: each pointer comes with the length of its slice, and the slices live through the call.
-    let status = unsafe {
-        seatpomelo_telemetered(
-            case.day,
-            case.holidays.as_ptr(),
-            case.holidays.len(),
-            nothing.as_ptr(),
-            0,
-            nothing.as_ptr(),
-            0,
-            0,
-            nothing.as_ptr(),
-            0,
-            daily.as_ptr(),
-            1,
-            case.factor,
-            case.tags.as_ptr(),
-            case.tags.len(),
-            case.values.as_ptr(),
-            case.values.len(),
-            &mut consumption,
-            &mut looked_at,
-        )
-    };
-    if status == 0 {
-        consumption
-    } else {
-        LIMIT + status as u64
+    const OTHER_TOLL: u8 = 0;
+    let (mut consumption, mut looked_at) = (0, 0);
+    let status = raw::telemetered(
+        case.day,
+        &case.holidays,
+        &[],
+        &[],
+        OTHER_TOLL,
+        &[],
+        &[case.day_flow],
+        case.factor,
+        &case.tags,
+        &case.values,
+        &mut consumption,
+        &mut looked_at,
+    );
+    match status {
+        0 => consumption,
+        refusal => LIMIT + u64::from(refusal),
     }
 }

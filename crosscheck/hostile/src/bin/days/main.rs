@@ -1,5 +1,5 @@
-//! Point-days, taken or not, through the proved static library beside the calculation: every call
-//! with the same answer and the same numbers afterwards. See crosscheck/README.md.
+//! Point-days, taken or not, through the proved library beside the calculation: every call with the
+//! same answer, the same values and the same numbers afterwards. See crosscheck/README.md.
 
 mod proved;
 
@@ -7,7 +7,7 @@ use std::collections::BTreeMap;
 use std::process::ExitCode;
 
 use crosscheck::damaged_days::{DamagedDay, DamagedDays};
-use crosscheck::plain::{self, PlainCall, PlainOutcome, PlainRows, NUMBERS};
+use crosscheck::plain::{self, PlainCall, PlainLines, PlainOutcome, PlainRows, NUMBERS};
 use hostile::fenced::Fenced;
 use proved::Lent;
 
@@ -49,31 +49,55 @@ fn said((answer, count): (&u8, &usize)) -> String {
     }
 }
 
-/// Each list ends at a fence.
+/// Each list ends at a fence, and so does each value.
 struct Memory {
     day: Fenced,
-    counts: Fenced,
-    users: Fenced,
-    amounts: Fenced,
+    lists: Lists,
     out: Fenced,
+    first: Fenced,
+    second: Fenced,
+    amount: Fenced,
+}
+
+/// The lists that are only read.
+struct Lists {
+    users: Fenced,
+    kinds: Fenced,
+    consumptions: Fenced,
+    coefficients: Fenced,
+    counts: Fenced,
+    amounts: Fenced,
 }
 
 impl Memory {
     fn new() -> Memory {
         let room = || Fenced::new(MOST * size_of::<i64>());
-        Memory { day: room(), counts: room(), users: room(), amounts: room(), out: room() }
+        let lists = Lists {
+            users: room(),
+            kinds: room(),
+            consumptions: room(),
+            coefficients: room(),
+            counts: room(),
+            amounts: room(),
+        };
+        let value = || Fenced::new(size_of::<i64>());
+        let (first, second, amount) = (value(), value(), value());
+        Memory { day: room(), lists, out: room(), first, second, amount }
     }
 
-    /// One call: the answer, the numbers and the rows that it should give, and nothing else
-    /// written.
+    /// One call: the answer, the numbers, the values and the rows that it should give, and nothing
+    /// else written.
     fn check(
         &mut self,
         before: &[i64],
         call: &PlainCall,
         wanted: &PlainOutcome,
     ) -> Result<(), String> {
-        fill(&mut self.day);
-        fill(&mut self.out);
+        for memory in
+            [&mut self.day, &mut self.out, &mut self.first, &mut self.second, &mut self.amount]
+        {
+            fill(memory);
+        }
         self.day.last_numbers(before.len()).copy_from_slice(before);
         let answer = self.call(before.len(), call)?;
         let same = same_numbers(self.day.last_numbers(before.len()), &wanted.numbers);
@@ -83,28 +107,89 @@ impl Memory {
         }
         same?;
         untouched(&mut self.day, before.len(), before.len(), "the point-day")?;
+        self.same_values(call, &wanted.values)?;
         let room = room_of(call);
         let written = 5 * wanted.rows.len();
         untouched(&mut self.out, room, written, "the inventory's buffer")?;
         same_rows(&self.out.last_numbers(room)[..written], &wanted.rows)
     }
 
-    fn call(&mut self, numbers: usize, call: &PlainCall) -> Result<u8, String> {
-        let none = PlainRows { counts: vec![], users: vec![], amounts: vec![] };
-        let rows = if let PlainCall::StandIn(rows) = call { rows } else { &none };
-        let counts = self.counts.last_numbers(rows.counts.len());
-        let users = self.users.last_numbers(rows.users.len());
-        let amounts = self.amounts.last_numbers(rows.amounts.len());
-        counts.copy_from_slice(&rows.counts);
-        users.copy_from_slice(&rows.users);
-        amounts.copy_from_slice(&rows.amounts);
-        let day = self.day.last_numbers(numbers);
-        let out = self.out.last_numbers(room_of(call));
-        let answer = proved::call(&mut Lent { day, counts, users, amounts, out }, call);
-        if *counts != rows.counts || *users != rows.users || *amounts != rows.amounts {
-            return Err("the rows of the stand-in were written to".to_string());
+    /// The values that are written, and the others as they were. Revise's second is signed.
+    fn same_values(&mut self, call: &PlainCall, wanted: &[i64]) -> Result<(), String> {
+        let second = if *call == PlainCall::Revise { 2 } else { 1 };
+        let places = [&mut self.first, &mut self.second, &mut self.amount];
+        for (place, memory) in places.into_iter().enumerate() {
+            let value = match place {
+                0 => wanted.first(),
+                _ if place == second => wanted.get(1),
+                _ => None,
+            };
+            let written = value.map_or(0, |_| 1);
+            untouched(memory, written, written, "a value")?;
+            let given: i64 = memory.last_numbers(1)[0];
+            if value.is_some_and(|&value| value != given) {
+                return Err(format!("the library's values have {given}, not {wanted:?}"));
+            }
         }
-        Ok(answer)
+        Ok(())
+    }
+
+    fn call(&mut self, numbers: usize, call: &PlainCall) -> Result<u8, String> {
+        let lists = Arguments::of(call);
+        let fenced = &mut self.lists;
+        let mut lent = Lent {
+            day: self.day.last_numbers(numbers),
+            users: fenced.users.holding(&lists.users),
+            kinds: fenced.kinds.holding(&lists.kinds),
+            consumptions: fenced.consumptions.holding(&lists.consumptions),
+            coefficients: fenced.coefficients.holding(&lists.coefficients),
+            counts: fenced.counts.holding(&lists.counts),
+            amounts: fenced.amounts.holding(&lists.amounts),
+            out: self.out.last_numbers(room_of(call)),
+            first: &mut self.first.last_numbers(1)[0],
+            second: &mut self.second.last_numbers(1)[0],
+            amount: &mut self.amount.last_numbers(1)[0],
+        };
+        let answer = proved::call(&mut lent, call);
+        if lists.are_in(&lent) {
+            Ok(answer)
+        } else {
+            Err("a list that is only read was written to".to_string())
+        }
+    }
+}
+
+/// The lists of a call's arguments; those that it does not have are empty.
+#[derive(Default)]
+struct Arguments {
+    users: Vec<u16>,
+    kinds: Vec<u8>,
+    consumptions: Vec<u64>,
+    coefficients: Vec<u64>,
+    counts: Vec<usize>,
+    amounts: Vec<i64>,
+}
+
+impl Arguments {
+    fn of(call: &PlainCall) -> Arguments {
+        match call.clone() {
+            PlainCall::Lines(PlainLines { users, kinds, consumptions, coefficients }) => {
+                Arguments { users, kinds, consumptions, coefficients, ..Arguments::default() }
+            }
+            PlainCall::StandIn(PlainRows { counts, users, amounts }) => {
+                Arguments { counts, users, amounts, ..Arguments::default() }
+            }
+            _ => Arguments::default(),
+        }
+    }
+
+    fn are_in(&self, lent: &Lent) -> bool {
+        lent.users == self.users
+            && lent.kinds == self.kinds
+            && lent.consumptions == self.consumptions
+            && lent.coefficients == self.coefficients
+            && lent.counts == self.counts
+            && lent.amounts == self.amounts
     }
 }
 

@@ -1,4 +1,4 @@
-//! Day files, valid and damaged, through the proved static library beside the calculation: the same
+//! Day files, valid and damaged, through the proved library beside the calculation: the same
 //! status and bytes, no other byte written, and nothing at a refusal. See crosscheck/README.md.
 
 mod proved;
