@@ -4,6 +4,15 @@ pub mod lists;
 ghost use mathlib.Core.Path.{_≡_};
 ghost use mathlib.Core.List.{[], _∷_};
 ghost use lib.ListN.{length};
+ghost use lib.IntN.{pos};
+ghost use Rattle.point_day.specs.Limits.{TOLERANCE};
+ghost use Rattle.point_day.specs.Calls.{join, line, measure, allot, stand-in, revise, start-final};
+ghost use Rattle.point_day.specs.Struct.{read, rows-of, called};
+ghost use Rattle.stand_in.specs.Rows.{rows-in};
+ghost use Rattle.inventory.specs.Inventory.{Afterwards};
+ghost use Rattle.plain_day.specs.Layout.{day-in};
+ghost use Rattle.plain_day.specs.Plain.{plain, plain-call, plain-fresh};
+ghost use Rattle.in_place.specs.Listing.{plain-inventory, status, row-count};
 ghost use Rattle.calendar.specs.Answers.{answer-of};
 ghost use Rattle.calendar.specs.DayTypes.{type-call};
 ghost use Rattle.months.specs.WorkingDays.{month-call};
@@ -67,6 +76,95 @@ fn type_number(day_type: DayType) -> u64
         DayType::Saturday => 1,
         DayType::SundayOrHoliday => 2,
     }
+}
+
+// ---- The point-day, in plain numbers that the caller lends, in place
+
+// A fresh point-day.
+#[no_mangle]
+pub extern "C" fn seatpomelo_fresh(day: &mut [i64]) -> u8
+    ensures { λ r. ⌜ plain r [] (now (day .exit)) ≡ plain-fresh (now (day .entry)) ⌝ }
+{
+    in_place::fresh(day)
+}
+
+// Join.
+#[no_mangle]
+pub extern "C" fn seatpomelo_join(day: &mut [i64], user: u16) -> u8
+    ensures { λ r. ⌜ plain r [] (now (day .exit)) ≡ plain-call (called (join user)) [] (now (day .entry)) ⌝ }
+{
+    in_place::join(day, user)
+}
+
+// Line; gives the losses added.
+#[no_mangle]
+pub extern "C" fn seatpomelo_line(
+    day: &mut [i64],
+    user: u16,
+    kind: u8,
+    consumption: u64,
+    coefficient: u64,
+    losses_added: &mut u64,
+) -> u8
+    ensures { λ r. ⌜ plain r (pos (now («losses_added» .exit)) ∷ []) (now (day .exit)) ≡ plain-call (called (line user kind consumption coefficient)) (pos (now («losses_added» .entry)) ∷ []) (now (day .entry)) ⌝ }
+{
+    in_place::line(day, user, kind, consumption, coefficient, losses_added)
+}
+
+// Measure.
+#[no_mangle]
+pub extern "C" fn seatpomelo_measure(day: &mut [i64], emission: u64, downstream: u64) -> u8
+    ensures { λ r. ⌜ plain r [] (now (day .exit)) ≡ plain-call (called (measure emission downstream)) [] (now (day .entry)) ⌝ }
+{
+    in_place::measure(day, emission, downstream)
+}
+
+// Allot.
+#[no_mangle]
+pub extern "C" fn seatpomelo_allot(day: &mut [i64]) -> u8
+    ensures { λ r. ⌜ plain r [] (now (day .exit)) ≡ plain-call (called allot) [] (now (day .entry)) ⌝ }
+{
+    in_place::allot(day)
+}
+
+// Stand-in, with its rows in three lists; gives the rows looked at.
+#[no_mangle]
+pub extern "C" fn seatpomelo_stand_in<'a>(
+    day: &mut [i64],
+    counts: &'a [usize],
+    users: &'a [u16],
+    amounts: &'a [i64],
+    rows_looked_at: &mut u64,
+) -> u8
+    ensures { λ r. ⌜ plain r (pos (now («rows_looked_at» .exit)) ∷ []) (now (day .exit)) ≡ plain-call (called (stand-in TOLERANCE (rows-of (rows-in (now (counts .entry)) (now (users .entry)) (now (amounts .entry)))))) (pos (now («rows_looked_at» .entry)) ∷ []) (now (day .entry)) ⌝ }
+{
+    in_place::stand_in(day, counts, users, amounts, rows_looked_at)
+}
+
+// Revise; gives 1 if R is within the tolerance, 0 if it is assigned, and R.
+#[no_mangle]
+pub extern "C" fn seatpomelo_revise(day: &mut [i64], within: &mut u64, amount: &mut i64) -> u8
+    ensures { λ r. ⌜ plain r (pos (now (within .exit)) ∷ now (amount .exit) ∷ []) (now (day .exit)) ≡ plain-call (called (revise TOLERANCE)) (pos (now (within .entry)) ∷ now (amount .entry) ∷ []) (now (day .entry)) ⌝ }
+{
+    in_place::revise(day, within, amount)
+}
+
+// Start-final.
+#[no_mangle]
+pub extern "C" fn seatpomelo_start_final(day: &mut [i64]) -> u8
+    ensures { λ r. ⌜ plain r [] (now (day .exit)) ≡ plain-call (called start-final) [] (now (day .entry)) ⌝ }
+{
+    in_place::start_final(day)
+}
+
+// Inventory; gives the count of rows.
+#[no_mangle]
+pub extern "C" fn seatpomelo_inventory<'a>(day: &'a [i64], out: &mut [i64], rows: &mut u64) -> u8
+    ensures { λ r. ⌜ r ≡ status (plain-inventory (now (day .entry)) (now (out .entry))) ⌝ }
+    ensures { λ r. ⌜ now (rows .exit) ≡ row-count (plain-inventory (now (day .entry)) (now (out .entry))) (now (rows .entry)) ⌝ }
+    ensures { λ r. ⌜ Afterwards (plain-inventory (now (day .entry)) (now (out .entry))) (read (day-in (now (day .entry)))) (now (out .entry)) (now (out .exit)) ⌝ }
+{
+    in_place::inventory(day, out, rows)
 }
 
 // ---- Calendar
