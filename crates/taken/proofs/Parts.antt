@@ -22,7 +22,7 @@ use Rattle.numbers.proofs.Sums.{lt-or-ge, length-table, getD-table, sumZ-eq}
 use Rattle.numbers.proofs.Lists.{All, true≢false, both-fst, both-snd, both-true, all-every, every-all, all-map}
 use Rattle.numbers.proofs.Amounts.{back, widen, within-add, within-first}
 use Rattle.point_day.specs.Limits.{USERS, CELLS, KINDS, LIMIT, AMOUNT}
-use Rattle.point_day.specs.Day.{User, offtake, all-offtake, whole, is-measured, no-more, is-zero}
+use Rattle.point_day.specs.Day.{User, offtake, all-offtake, whole, no-more, is-zero}
 use Rattle.point_day.specs.Struct.{Sized, kinds-of, user-at, read, none-past, none-below, unallotted, amounts-right, sum-right, taken}
 use Rattle.point_day.specs.declared.Measurement.{Measurement}
 use Rattle.point_day.specs.declared.PointDay.{PointDay}
