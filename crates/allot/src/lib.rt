@@ -24,7 +24,7 @@ use point_day::PointDay;
 
 // The tests of allot on the parts of a taken point-day whose whole amounts sum to `sum`: 0, or the number of the refusal. `cells`, zeros
 // before, are then the balances; `shares` is scratch, for the users' shares and then their whole amounts.
-pub fn allot_parts<'a>(
+fn allot_parts<'a>(
     allotted: bool,
     measurement: Measurement,
     n: usize,

@@ -2,6 +2,8 @@
 ghost use mathlib.Core.Path.{_≡_};
 ghost use Prim.Native.Nat.{_≤_};
 ghost use lib.ListN.{length, take};
+ghost use mir.Syntax.{w32};
+ghost use mir.Val.{toZ};
 ghost use Rattle.io.specs.Counts.{Counts};
 ghost use Rattle.console.specs.Input.{Onward};
 ghost use Rattle.history.specs.History.{ENTRIES};
@@ -164,7 +166,9 @@ pub fn read_winter(s: &[u8], from: Cursor, there: bool, into: &mut [u32]) -> Lis
 }
 
 // The signed number with the same bits.
-pub fn signed(bits: u32) -> i32 {
+pub fn signed(bits: u32) -> i32
+    ensures { λ r. ⌜ r ≡ toZ w32 bits ⌝ }
+{
     if bits < 2147483648 {
         bits as i32
     } else {

@@ -1,6 +1,7 @@
 pub mod Sums
 pub mod Filled
 pub mod Lists
+pub mod Buckets
 pub mod Places
 pub mod Totals
 pub mod Bits

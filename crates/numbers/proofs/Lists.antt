@@ -134,6 +134,11 @@ has-at n [] i l e = absurd (omega arith)
 has-at n (x ∷ xs) zero l e = rw (eq-eqb n x (sym e))
 has-at n (x ∷ xs) (suc i) l e = rw (has-at n xs i (omega arith) e) (either-end (eqb n x))
 
+pub has-none : (n : ℕ) (xs : List ℕ) → ((i : ℕ) → i < length xs → at xs i ≡ n → ⊥) → has n xs ≡ false
+unfolding has
+has-none n [] h = refl
+has-none n (x ∷ xs) h = rw (ne-eqb n x (λ e. h 0 (omega arith) (sym e))) (has-none n xs (λ i l e. h (suc i) (omega arith) e))
+
 pub distinct-is : (xs : List ℕ) → distinct xs ≡ true → Distinct xs
 unfolding distinct
 distinct-is [] e i j l m h = absurd (omega arith)

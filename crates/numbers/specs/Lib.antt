@@ -3,3 +3,4 @@ pub mod Lists
 pub mod Amounts
 pub mod Nearest
 pub mod Refusals
+pub mod Buckets

@@ -1,12 +1,14 @@
-// The nearest of a fraction, signed amounts and their sums, and the numbers of refusals.
+// The nearest of a fraction, signed amounts and their sums, buckets of numbers, and the numbers of refusals.
 ghost use mathlib.Core.Path.{_≡_};
+ghost use mathlib.Core.Bool.{false};
 ghost use Prim.Native.Nat.{ℕ, _≤_, _<_};
 ghost use lib.Dec.{leb, eqb};
 ghost use lib.IntN.{pos, natAbs, _+ℤ_, _-ℤ_};
-ghost use lib.ListN.{length};
+ghost use lib.ListN.{length, replicate};
 ghost use Rattle.numbers.specs.Sums.{atZ, totalZ};
 ghost use Rattle.numbers.specs.Amounts.{SAFE, Within, Between, Decides, is-negative, signed};
 ghost use Rattle.numbers.specs.Nearest.{nearest};
+ghost use Rattle.numbers.specs.Buckets.{BUCKETS};
 
 // ---- the table of document 01, section "Refusals"
 
@@ -174,4 +176,16 @@ pub fn all_zero(xs: &[i64], from: usize) -> bool
         i += 1;
     }
     bits == 0
+}
+
+// ---- a number that stands twice
+
+// Numbers are sorted into so many buckets by their remainder: only one whose bucket is marked is searched among those before it.
+pub const BUCKETS: usize = 1024;
+
+// No bucket is marked.
+pub fn unmarked() -> [bool; BUCKETS]
+    ensures { λ r. ⌜ r ≡ replicate BUCKETS false ⌝ }
+{
+    [false; BUCKETS]
 }

@@ -1,11 +1,11 @@
 -- R assigned, on columns of users. Assumes nothing.
 use mathlib.Core.Bool.{Bool, true, not}
-use mathlib.Core.List.{List, zipWith}
+use mathlib.Core.List.{List, map, zipWith}
 use mathlib.Core.Path.{_≡_}
 use Prim.Native.Nat.{ℕ, _≤_, _<_}
-use lib.IntN.{ℤ, pos, _+ℤ_}
+use lib.IntN.{ℤ, pos, natAbs, _+ℤ_}
 use lib.ListN.{length, take}
-use Rattle.numbers.specs.Sums.{atZ}
+use Rattle.numbers.specs.Sums.{atZ, total}
 use Rattle.numbers.specs.Lists.{distinct}
 use Rattle.numbers.specs.Amounts.{Within}
 use Rattle.point_day.specs.Limits.{USERS, LIMIT, AMOUNT}
@@ -13,9 +13,10 @@ use Rattle.point_day.specs.Struct.{padded}
 use Rattle.taken.specs.Tested.{any-large}
 use Rattle.revise.specs.Revisions.{shares}
 
--- users us, all revisions rs, and a column ws that starts with the users' whole amounts, in their ranges
-pub record Assignable (R : ℤ) (us : List ℕ) (rs ws : List ℤ) : Type 0 where
+-- users us, all revisions rs, and a column ws that starts with the users' whole amounts, in their ranges; W is the sum of their sizes
+pub record Assignable (R : ℤ) (W : ℕ) (us : List ℕ) (rs ws : List ℤ) : Type 0 where
   pub amount : Within LIMIT R
+  pub sum : W ≡ total (map natAbs (take (length us) ws))
   pub some : 0 < length us
   pub few : length us ≤ USERS
   pub apart : distinct us ≡ true

@@ -40,7 +40,8 @@ fn is_revisable(stage: Stage, allotted: bool) -> bool
     false
 }
 
-// The tests of a revise by any tolerance, on the parts of a point-day. `column` has the revisions afterwards, if R is assigned.
+// The tests of a revise by any tolerance, on the parts of a point-day. `column` has the revisions afterwards, if R is assigned: then no
+// whole amount was negative, and the sum of the weights is their sum.
 pub fn revise_test<'a>(
     stage: Stage,
     allotted: bool,
@@ -81,7 +82,8 @@ pub fn revise_test<'a>(
     if columns::any_negative(&column[..n]) {
         return ReviseTest::Refused(numbers::NEGATIVE_WEIGHT);
     }
-    if !assignment::assign(amount, &users[..n], revision, column) {
+    let weight_sum = numbers::size(state.sum);
+    if !assignment::assign(amount, weight_sum, &users[..n], revision, column) {
         return ReviseTest::Refused(numbers::AMOUNT_TOO_LARGE);
     }
     ReviseTest::Assigned(amount)

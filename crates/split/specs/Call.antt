@@ -10,10 +10,6 @@ use Rattle.numbers.specs.Sums.{pick}
 use Rattle.numbers.specs.Lists.{both, every, has, distinct}
 use Rattle.proration.specs.Proration.{PARTIES, LARGEST-AMOUNT, LARGEST-WEIGHT, prorateZ}
 
--- keys are sorted into so many buckets by their remainder, to find one that stands twice
-abbrev pub BUCKETS : ℕ
-BUCKETS = 1024
-
 -- an amount, 1 to 366 weights, and a key for each of them, no two alike, within the limits of any split in document 01
 unfoldable pub in-range : ℤ → List ℕ → List ℕ → Bool
 in-range z ws ks =

@@ -1,13 +1,9 @@
 // The keys of a split: whether no two are alike.
 ghost use mathlib.Core.Path.{_≡_};
-ghost use mathlib.Core.Bool.{false};
 ghost use Prim.Native.Nat.{_≤_};
-ghost use lib.ListN.{length, take, replicate};
+ghost use lib.ListN.{length, take};
 ghost use Rattle.numbers.specs.Lists.{both, has, distinct};
-ghost use Rattle.split.specs.Call.{BUCKETS};
-
-// Keys are sorted into so many buckets by their remainder: only a key whose bucket is taken is searched among those before it.
-const BUCKETS: usize = 1024;
+use numbers::BUCKETS;
 
 // Whether the key stands before place n, where an unmarked one is known not to.
 fn stands_before(marked: bool, keys: &[u64], n: usize, key: u64) -> bool
@@ -27,18 +23,11 @@ fn stands_before(marked: bool, keys: &[u64], n: usize, key: u64) -> bool
     false
 }
 
-// No bucket is marked.
-fn unmarked() -> [bool; BUCKETS]
-    ensures { λ r. ⌜ r ≡ replicate BUCKETS false ⌝ }
-{
-    [false; BUCKETS]
-}
-
 // Whether no two keys are alike.
 pub fn are_distinct(keys: &[u64]) -> bool
     ensures { λ r. ⌜ r ≡ distinct (now (keys .entry)) ⌝ }
 {
-    let mut marked = unmarked();
+    let mut marked = numbers::unmarked();
     let mut i = 0;
     while i < keys.len() {
         let key = keys[i];

@@ -80,7 +80,8 @@ pub fn row_test<'a>(
     if columns::any_negative(row_amounts) {
         return numbers::NEGATIVE_WEIGHT;
     }
-    shares::share_out(net as i64, row_users, row_amounts, shares);
+    let weight_sum = numbers::size(numbers::sum_of(row_amounts));
+    shares::share_out(net as i64, row_users, row_amounts, weight_sum, shares);
     if taken::wholes_too_large(shares) {
         return numbers::AMOUNT_TOO_LARGE;
     }

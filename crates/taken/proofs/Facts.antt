@@ -20,7 +20,7 @@ use Rattle.numbers.proofs.Places.{every-at, at-every, every-from}
 use Rattle.numbers.proofs.Sums.{lt-or-ge, length-table, getD-table, table-take, at-total}
 use Rattle.numbers.proofs.Lists.{true≢false, both-fst, both-snd, both-true, every-all, all-table}
 use Rattle.point_day.specs.Limits.{USERS, CELLS, KINDS, LIMIT, AMOUNT}
-use Rattle.point_day.specs.Day.{User, numbers, all-offtake, whole, all-whole, some, no-more, is-zero, measurement-right, too-large}
+use Rattle.point_day.specs.Day.{User, numbers, all-offtake, whole, all-whole, some, is-measured, no-more, is-zero, measurement-right, too-large}
 use Rattle.point_day.specs.Struct.{Sized, kinds-of, user-at, read, none-past, none-below, unallotted, amounts-right, sum-right, taken}
 use Rattle.point_day.specs.declared.Measurement.{Measurement}
 use Rattle.point_day.specs.declared.PointDay.{PointDay}
@@ -31,7 +31,6 @@ use Rattle.state.specs.Places.{From, ROOM, Small, Summable, Lengths, whole-at}
 use Rattle.state.proofs.Cells.{zero-between, between-zero, between-sign, low-size, nonneg-between, between-size, size-between, within-from, low-from}
 use Rattle.state.proofs.Totals.{kinds-long, offtake-is, whole-is, wholes-are}
 use Rattle.point_day.specs.Fields.{point-day}
-use Rattle.taken.specs.Standing.{Stands}
 use Rattle.taken.specs.Tested.{Wholes, any-large}
 use Rattle.point_day.specs.declared.Stage.{Stage}
 
@@ -60,7 +59,8 @@ pub record Facts (d : PointDay) : Type 0 where
   pub measurement : measurement-right (d .measurement) ≡ true
   pub offtake : total (map natAbs (d .consumption)) + total (map natAbs (d .losses)) ≤ LIMIT
   pub wholes : Wholes (d .count) (wholes-of d)
-  pub stands : Stands (d .allotted) (d .count) (d .measurement) (d .balance) (d .revision)
+  pub standing : d .allotted ≡ true → (d .count ≡ 0 → ⊥) × (is-measured (d .measurement) ≡ true)
+  pub entering : d .allotted ≡ false → From 0 (pos 0) (pos 0) (d .balance) × From 0 (pos 0) (pos 0) (d .revision)
 
 -- ---- the user numbers
 
@@ -172,9 +172,8 @@ module _ (d : PointDay) (z : Sized d) (t : Taken d) where
       let h = every-user d unallotted e s l in
       (both-fst (every is-zero (kinds-of s (d .balance))) _ h, both-snd (every is-zero (kinds-of s (d .balance))) _ h)
 
-  stands-of : (p : Bool) → d .allotted ≡ p → Stands p (d .count) (d .measurement) (d .balance) (d .revision)
-  stands-of true e = (users-some d (t .standing e .0), t .standing e .1)
-  stands-of false e =
+  entering-zeros : d .allotted ≡ false → From 0 (pos 0) (pos 0) (d .balance) × From 0 (pos 0) (pos 0) (d .revision)
+  entering-zeros e =
       let b = bare-of (t .entering e) in (
         λ i l q. zero-between (atZ (d .balance) i)
             (cells-at is-zero (d .count) (d .balance) (z .balance) (t .few) (λ s l. b s l .0) (every-from is-zero (pos 0) (KINDS * d .count) (d .balance) (t .past .balance)) i q),
@@ -204,7 +203,8 @@ module _ (d : PointDay) (z : Sized d) (t : Taken d) where
           (leb-true (natAbs (whole (user-at d s))) AMOUNT (every-user d (λ u. no-more AMOUNT (whole u)) (not-false _ (t .wholes)) s l));
       sum = sum-of (sumZ (wholes-of d) (d .count)) (sym (ap sum-right (wholes-are d z (t .consumption) (t .losses) (t .few))) ∙ t .sum);
     };
-    stands = stands-of (d .allotted) refl;
+    standing = λ e. (users-some d (t .standing e .0), t .standing e .1);
+    entering = entering-zeros;
   }
 
 pub facts : (d : PointDay) → Sized d → taken d ≡ true → Facts d

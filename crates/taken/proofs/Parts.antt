@@ -22,7 +22,7 @@ use Rattle.numbers.proofs.Sums.{lt-or-ge, length-table, getD-table, sumZ-eq}
 use Rattle.numbers.proofs.Lists.{All, true≢false, both-fst, both-snd, both-true, all-every, every-all, all-map}
 use Rattle.numbers.proofs.Amounts.{back, widen, within-add, within-first}
 use Rattle.point_day.specs.Limits.{USERS, CELLS, KINDS, LIMIT, AMOUNT}
-use Rattle.point_day.specs.Day.{User, offtake, all-offtake, whole, is-measured, no-more, is-zero}
+use Rattle.point_day.specs.Day.{User, offtake, all-offtake, whole, no-more, is-zero}
 use Rattle.point_day.specs.Struct.{Sized, kinds-of, user-at, read, none-past, none-below, unallotted, amounts-right, sum-right, taken}
 use Rattle.point_day.specs.declared.Measurement.{Measurement}
 use Rattle.point_day.specs.declared.PointDay.{PointDay}
@@ -33,7 +33,6 @@ use Rattle.state.proofs.Cells.{zero-between, between-zero, between-sign, low-si
 use Rattle.state.proofs.Lows.{offtake-within, user-balance-within}
 use Rattle.state.proofs.Totals.{kinds-long, whole-is, wholes-are, whole-parts, offtakes-are}
 use Rattle.taken.specs.declared.StateTest.{StateTest}
-use Rattle.taken.specs.Standing.{Stands}
 use Rattle.taken.specs.Tested.{TestedState, Found, Head, Offtakes, Wholes, Balances, Entering, Allotted, added-at}
 use Rattle.taken.proofs.Facts.{wholes-of, Facts, all-users, some-users, numbers-are, bare, facts, untaken, taken-summable}
 
@@ -243,14 +242,10 @@ module _ (d : PointDay) (z : Sized d) (e : d .allotted ≡ true) where
           standing = λ q. (some-users d (a .users), a .measured);
         }
 
-  stood : (p : Bool) → p ≡ true → Stands p (d .count) (d .measurement) (d .balance) (d .revision) → (d .count ≡ 0 → ⊥) × (is-measured (d .measurement) ≡ true)
-  stood true q h = h
-  stood false q h = true≢false (sym q)
-
   pub allotted-of : taken d ≡ true → Allotted (d .measurement) (d .count) (d .consumption) (d .losses) (d .balance) (d .revision)
   allotted-of q =
       let f = facts d z q in
-      let t = stood (d .allotted) e (f .stands) in
+      let t = f .standing e in
       record {
         users = t .0;
         measured = t .1;
@@ -344,14 +339,10 @@ module _ (d : PointDay) (z : Sized d) (e : d .allotted ≡ false) where
           standing = λ q. true≢false (sym q ∙ e);
         }
 
-  unstood : (p : Bool) → p ≡ false → Stands p (d .count) (d .measurement) (d .balance) (d .revision) → From 0 (pos 0) (pos 0) (d .balance) × From 0 (pos 0) (pos 0) (d .revision)
-  unstood true q h = true≢false q
-  unstood false q h = h
-
   pub entering-of : taken d ≡ true → Entering (d .count) (d .consumption) (d .losses) (d .balance) (d .revision)
   entering-of q =
       let f = facts d z q in
-      let s = unstood (d .allotted) e (f .stands) in
+      let s = f .entering e in
       record {
         balance = s .0;
         revision = s .1;

@@ -1,15 +1,11 @@
 // The user numbers of a point-day: none is 0, none stands twice, and none stands past the last user.
 ghost use mathlib.Core.Path.{_≡_};
-ghost use mathlib.Core.Bool.{false, not};
+ghost use mathlib.Core.Bool.{not};
 ghost use Prim.Native.Nat.{ℕ, _≤_, _<_};
-ghost use lib.ListN.{length, getD, take, replicate};
+ghost use lib.ListN.{length, getD, take};
 ghost use Rattle.numbers.specs.Lists.{both, has, distinct};
 ghost use Rattle.numbers.specs.Amounts.{Decides};
-ghost use Rattle.taken.specs.Buckets.{BUCKETS};
-
-// User numbers are sorted into so many buckets by their remainder, to find one that stands twice: only a number whose bucket is
-// taken is searched among those before it.
-const BUCKETS: usize = 1024;
+use numbers::BUCKETS;
 
 // Whether the user stands before slot n, where an unmarked one is known not to.
 fn stands_before(marked: bool, users: &[u16], n: usize, user: u16) -> bool
@@ -22,19 +18,12 @@ fn stands_before(marked: bool, users: &[u16], n: usize, user: u16) -> bool
     state::slot_of(users, n, user) < n
 }
 
-// No number is marked.
-fn unmarked() -> [bool; BUCKETS]
-    ensures { λ r. ⌜ r ≡ replicate BUCKETS false ⌝ }
-{
-    [false; BUCKETS]
-}
-
 // Whether no user number is 0 and none stands twice.
 pub fn numbers_right(users: &[u16], count: usize) -> bool
     requires { ⌜ count ≤ length (now users) ⌝ }
     ensures { λ r. ⌜ r ≡ both (not (has 0 (take count (now (users .entry))))) (distinct (take count (now (users .entry)))) ⌝ }
 {
-    let mut marked = unmarked();
+    let mut marked = numbers::unmarked();
     let mut i = 0;
     while i < count {
         let user = users[i];

@@ -82,7 +82,7 @@ pub fn put_text(out: &mut [u8], i: usize, text: &[u8]) -> usize
 }
 
 // The decimal digits of a number.
-pub fn put_natural(out: &mut [u8], i: usize, n: u64) -> usize
+fn put_natural(out: &mut [u8], i: usize, n: u64) -> usize
     requires { ⌜ i + 20 ≤ length (now out) ⌝ }
     ensures { λ r. ⌜ (r ≡ i + length (natural n)) × (r ≤ i + 20) ⌝ }
     ensures { λ r. ⌜ now (out .exit) ≡ written (now (out .entry)) i (natural n) ⌝ }

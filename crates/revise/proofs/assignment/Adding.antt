@@ -19,7 +19,7 @@ use Rattle.columns.proofs.Padding.{padded-over, padded-long, padded-every, padd
 use Rattle.taken.specs.Tested.{any-large}
 use Rattle.revise.specs.Assigning.{Assignable, shared}
 
-module _ {R : ℤ} {us : List ℕ} {rs ws : List ℤ} (h : Assignable R us rs ws) where
+module _ {R : ℤ} {W : ℕ} {us : List ℕ} {rs ws : List ℤ} (h : Assignable R W us rs ws) where
   abbrev first : List ℤ
   first = take (length us) ws
 

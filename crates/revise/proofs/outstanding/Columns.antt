@@ -1,6 +1,6 @@
 -- The columns of a taken point-day for a revision: how they are computed, and how large their amounts are. Assumes nothing.
 use mathlib.Core.Path.{_≡_, sym, ap, ap₂, _∙_}
-use mathlib.Core.Bool.{true, not}
+use mathlib.Core.Bool.{true, false, not}
 use mathlib.Core.List.{List, _++_, map}
 use Prim.Native.Nat.{ℕ, _≤_, _<_}
 use native.Mathlib.Omega.{arith}
@@ -8,13 +8,14 @@ use lib.IntN.{ℤ, natAbs, _-ℤ_}
 use lib.Seq.{length-take-le}
 use lib.ListN.{length, take, drop, length-append, length-drop, length-map}
 use borrow.Author.Tests.{leb-true, not-false}
-use Rattle.numbers.specs.Sums.{table, atZ}
-use Rattle.numbers.specs.Amounts.{Within}
+use Rattle.numbers.specs.Sums.{table, atZ, total}
+use Rattle.numbers.specs.Amounts.{SAFE, Within, is-negative}
 use Rattle.numbers.proofs.Sums.{length-table}
-use Rattle.numbers.proofs.Lists.{All, all-every, all-map, map-map}
+use Rattle.numbers.proofs.Lists.{both-snd, All, all-every, all-map, map-map}
 use Rattle.proration.specs.Proration.{prorateZ}
-use Rattle.point_day.specs.Limits.{USERS, AMOUNT}
+use Rattle.point_day.specs.Limits.{USERS, LIMIT, AMOUNT}
 use Rattle.point_day.specs.Day.{User, numbers, whole, all-whole, net-of, no-more}
+use Rattle.point_day.specs.Calls.{negative}
 use Rattle.point_day.specs.Struct.{Sized, user-at, read, taken}
 use Rattle.point_day.specs.declared.PointDay.{PointDay}
 use Rattle.point_day.proofs.Taken.{Taken, taken-facts}
@@ -25,6 +26,7 @@ use Rattle.state.proofs.Cells.{between-size, within-from}
 use Rattle.state.proofs.Totals.{whole-is}
 use Rattle.taken.proofs.Facts.{facts, first-wholes}
 use Rattle.columns.proofs.Padding.{table-by, all-within}
+use Rattle.columns.proofs.Shared.{sizes-sum}
 use Rattle.revise.specs.Revisions.{outstanding, shares}
 
 module _ (d : PointDay) (z : Sized d) (ok : taken d ≡ true) where
@@ -86,6 +88,10 @@ module _ (d : PointDay) (z : Sized d) (ok : taken d ≡ true) where
     pub numbered-small : (i : ℕ) → Within AMOUNT (atZ numbered i)
     numbered-small = rw users-long wholes-small
 
+    -- the size of their sum is the sum of their sizes
+    pub weights-sum : negative (map whole us) ≡ false → {s : ℤ} → s ≡ all-whole us → natAbs s ≡ total (map natAbs numbered)
+    weights-sum n e = ap natAbs e ∙ sizes-sum (map whole us) n ∙ sym (ap (λ zs. total (map natAbs zs)) numbered-are)
+
     -- R prorated by them
     pub shares-are : {R : ℤ} → R ≡ outstanding d → shares R (take (d .count) (d .users)) numbered ≡ prorateZ (outstanding d) (map (λ u. natAbs (whole u)) us) (numbers us)
     shares-are {R} q =
@@ -93,6 +99,9 @@ module _ (d : PointDay) (z : Sized d) (ok : taken d ≡ true) where
         ∙ ap (λ x. prorateZ x (map (λ u. natAbs (whole u)) us) (numbers us)) q
 
   -- ---- R
+
+  pub sum-safe : {s : ℤ} → s ≡ all-whole us → Within SAFE s
+  sum-safe e = record { size = omega (arith, ap natAbs e, leb-true (natAbs (all-whole us)) LIMIT (both-snd (not (is-negative (all-whole us))) _ (t .sum))) }
 
   pub outstanding-is : {s : ℤ} → s ≡ all-whole us → net-of (d .measurement) -ℤ s ≡ outstanding d
   unfolding outstanding read

@@ -21,7 +21,7 @@ use Rattle.point_day.proofs.Taken.{taken-facts}
 use Rattle.taken.proofs.Facts.{parts-sized, facts, sum-kept}
 use Rattle.taken.specs.Tested.{any-large}
 use Rattle.revise.specs.Revisions.{outstanding}
-use Rattle.revise.proofs.outstanding.Columns.{users-long, filled, column-long, wholes-are, wholes-long, numbered-are, numbered-small, shares-are, outstanding-is, revisions-small}
+use Rattle.revise.proofs.outstanding.Columns.{users-long, filled, column-long, wholes-are, wholes-long, numbered-are, numbered-small, weights-sum, sum-safe, shares-are, outstanding-is, revisions-small}
 use Rattle.revise.proofs.Revising.{revise-1, revise-within, revise-11, revise-12, revise-done}
 use Rattle.revise.proofs.revise_test.Statement.{statement}
 use Rattle.revise.proofs.revise_test.Tie as tie
@@ -136,8 +136,8 @@ returns-4 c =
     let n = sym (ap negative w) ∙ sym (c .before .any-negative .ensures) in
     revise-11 d z t (a .tolerance) o (m ∙ c .before .before .before .if3 .left) (n ∙ c .if4 .taken)
 
-slice-aggregate-assign : tie.Need-slice-aggregate-assign
-slice-aggregate-assign c =
+size-requires : tie.Need-size-requires
+size-requires c κs =
     let s = c .before .before .before .before .before .before .before .before .before .before .before .before .before .before .before .before in
     let a = s .args in
     let d = point-day (a .stage) (a .allotted) (a .measurement) (a .n) (a .users .now) (a .consumption .now) (a .losses .now) (a .balance .now) (a .revision .now) in
@@ -145,23 +145,37 @@ slice-aggregate-assign c =
     let z = parts-sized (a .stage) (s .pre .0) (s .pre .1) in
     let k = not-false _ (c .before .before .before .before .before .before .before .before .before .before .if1 .left) in
     let t : taken d ≡ true = sym (T .is) ∙ k in
+    sum-safe d z t (sum-kept d z t (T .sum k))
+
+slice-aggregate-assign : tie.Need-slice-aggregate-assign
+slice-aggregate-assign c =
+    let s = c .before .before .before .before .before .before .before .before .before .before .before .before .before .before .before .before .before .before in
+    let a = s .args in
+    let d = point-day (a .stage) (a .allotted) (a .measurement) (a .n) (a .users .now) (a .consumption .now) (a .losses .now) (a .balance .now) (a .revision .now) in
+    let T = c .before .before .before .before .before .before .before .before .before .before .before .before .before .before .before .test-state .ensures (a .stage) in
+    let z = parts-sized (a .stage) (s .pre .0) (s .pre .1) in
+    let k = not-false _ (c .before .before .before .before .before .before .before .before .before .before .before .before .if1 .left) in
+    let t : taken d ≡ true = sym (T .is) ∙ k in
     sym (users-long d z t)
 
 assign-requires : tie.Need-assign-requires
 assign-requires c κs =
-    let s = c .before .before .before .before .before .before .before .before .before .before .before .before .before .before .before .before .before in
+    let s = c .before .before .before .before .before .before .before .before .before .before .before .before .before .before .before .before .before .before .before in
     let a = s .args in
     let d = point-day (a .stage) (a .allotted) (a .measurement) (a .n) (a .users .now) (a .consumption .now) (a .losses .now) (a .balance .now) (a .revision .now) in
-    let T = c .before .before .before .before .before .before .before .before .before .before .before .before .before .before .test-state .ensures (a .stage) in
+    let T = c .before .before .before .before .before .before .before .before .before .before .before .before .before .before .before .before .test-state .ensures (a .stage) in
     let z = parts-sized (a .stage) (s .pre .0) (s .pre .1) in
-    let k = not-false _ (c .before .before .before .before .before .before .before .before .before .before .before .if1 .left) in
+    let k = not-false _ (c .before .before .before .before .before .before .before .before .before .before .before .before .before .if1 .left) in
     let t : taken d ≡ true = sym (T .is) ∙ k in
-    let o = sym (c .before .before .before .before .before .before .before .before .before .before .is-revisable .ensures) ∙ not-false _ (c .before .before .before .before .before .before .before .before .before .if2 .left) in
+    let o = sym (c .before .before .before .before .before .before .before .before .before .before .before .before .is-revisable .ensures) ∙ not-false _ (c .before .before .before .before .before .before .before .before .before .before .before .if2 .left) in
     let S = sum-kept d z t (T .sum k) in
-    let r = c .before .before .before .before .before .before .before .outstanding .ensures .1 in
+    let w = wholes-are d z t (a .column .now) (T .wholes k) in
+    let n = sym (ap negative w) ∙ sym (c .before .before .before .before .before .any-negative .ensures) ∙ c .before .before .before .before .if4 .left in
+    let r = c .before .before .before .before .before .before .before .before .before .outstanding .ensures .1 in
     let u = users-long d z t in
     record {
       amount = rw (back r (lit< tt)) r;
+      sum = c .before .before .size .ensures ∙ weights-sum d z t (a .column .now) (T .wholes k) n S;
       some = omega (arith, u, filled d z t (both-snd (provisional (a .stage)) _ o));
       few = omega (arith, u, facts d z t .few);
       apart = facts d z t .apart;
@@ -176,49 +190,49 @@ same-length-5 c = search needs
 
 returns-5 : tie.Need-returns-5
 returns-5 c =
-    let s = c .before .before .before .before .before .before .before .before .before .before .before .before .before .before .before .before .before .before .before .before in
+    let s = c .before .before .before .before .before .before .before .before .before .before .before .before .before .before .before .before .before .before .before .before .before .before in
     let a = s .args in
     let d = point-day (a .stage) (a .allotted) (a .measurement) (a .n) (a .users .now) (a .consumption .now) (a .losses .now) (a .balance .now) (a .revision .now) in
-    let T = c .before .before .before .before .before .before .before .before .before .before .before .before .before .before .before .before .before .test-state .ensures (a .stage) in
+    let T = c .before .before .before .before .before .before .before .before .before .before .before .before .before .before .before .before .before .before .before .test-state .ensures (a .stage) in
     let z = parts-sized (a .stage) (s .pre .0) (s .pre .1) in
-    let k = not-false _ (c .before .before .before .before .before .before .before .before .before .before .before .before .before .before .if1 .left) in
+    let k = not-false _ (c .before .before .before .before .before .before .before .before .before .before .before .before .before .before .before .before .if1 .left) in
     let t : taken d ≡ true = sym (T .is) ∙ k in
-    let o = sym (c .before .before .before .before .before .before .before .before .before .before .before .before .before .is-revisable .ensures) ∙ not-false _ (c .before .before .before .before .before .before .before .before .before .before .before .before .if2 .left) in
+    let o = sym (c .before .before .before .before .before .before .before .before .before .before .before .before .before .before .before .is-revisable .ensures) ∙ not-false _ (c .before .before .before .before .before .before .before .before .before .before .before .before .before .before .if2 .left) in
     let S = sum-kept d z t (T .sum k) in
-    let R : toZ w64 (ofZ w64 (c .before .before .before .before .before .before .before .before .before .before .outstanding .result)) ≡ outstanding d = back (c .before .before .before .before .before .before .before .before .before .before .outstanding .ensures .1) (lit< tt) ∙ c .before .before .before .before .before .before .before .before .before .before .outstanding .ensures .0 ∙ outstanding-is d z t S in
-    let m = sym (ap (no-more (a .tolerance)) R) ∙ sym (c .before .before .before .before .before .before .before .before .before .size-at-most .ensures) in
+    let R : toZ w64 (ofZ w64 (c .before .before .before .before .before .before .before .before .before .before .before .before .outstanding .result)) ≡ outstanding d = back (c .before .before .before .before .before .before .before .before .before .before .before .before .outstanding .ensures .1) (lit< tt) ∙ c .before .before .before .before .before .before .before .before .before .before .before .before .outstanding .ensures .0 ∙ outstanding-is d z t S in
+    let m = sym (ap (no-more (a .tolerance)) R) ∙ sym (c .before .before .before .before .before .before .before .before .before .before .before .size-at-most .ensures) in
     let w = wholes-are d z t (a .column .now) (T .wholes k) in
-    let n = sym (ap negative w) ∙ sym (c .before .before .before .before .before .before .any-negative .ensures) in
+    let n = sym (ap negative w) ∙ sym (c .before .before .before .before .before .before .before .before .any-negative .ensures) in
     let A = c .before .before .assign .ensures in
     let g = shares-are d z t (a .column .now) (T .wholes k) R in
     let W = sym (ap₂ (λ x y. any-large (zipWith _+ℤ_ x y)) (numbered-are d z t (a .column .now) (T .wholes k)) g) in
-    revise-12 d z t (a .tolerance) o (m ∙ c .before .before .before .before .before .before .before .before .if3 .left) (n ∙ c .before .before .before .before .before .if4 .left) (W ∙ not-false _ (sym (A .is) ∙ not-true _ (c .if5 .taken)))
+    revise-12 d z t (a .tolerance) o (m ∙ c .before .before .before .before .before .before .before .before .before .before .if3 .left) (n ∙ c .before .before .before .before .before .before .before .if4 .left) (W ∙ not-false _ (sym (A .is) ∙ not-true _ (c .if5 .taken)))
 
 same-length-6 : tie.Need-same-length-6
 same-length-6 c = search needs
 
 returns-6 : tie.Need-returns-6
 returns-6 c =
-    let s = c .before .before .before .before .before .before .before .before .before .before .before .before .before .before .before .before .before .before .before .before in
+    let s = c .before .before .before .before .before .before .before .before .before .before .before .before .before .before .before .before .before .before .before .before .before .before in
     let a = s .args in
     let d = point-day (a .stage) (a .allotted) (a .measurement) (a .n) (a .users .now) (a .consumption .now) (a .losses .now) (a .balance .now) (a .revision .now) in
-    let T = c .before .before .before .before .before .before .before .before .before .before .before .before .before .before .before .before .before .test-state .ensures (a .stage) in
+    let T = c .before .before .before .before .before .before .before .before .before .before .before .before .before .before .before .before .before .before .before .test-state .ensures (a .stage) in
     let z = parts-sized (a .stage) (s .pre .0) (s .pre .1) in
-    let k = not-false _ (c .before .before .before .before .before .before .before .before .before .before .before .before .before .before .if1 .left) in
+    let k = not-false _ (c .before .before .before .before .before .before .before .before .before .before .before .before .before .before .before .before .if1 .left) in
     let t : taken d ≡ true = sym (T .is) ∙ k in
-    let o = sym (c .before .before .before .before .before .before .before .before .before .before .before .before .before .is-revisable .ensures) ∙ not-false _ (c .before .before .before .before .before .before .before .before .before .before .before .before .if2 .left) in
+    let o = sym (c .before .before .before .before .before .before .before .before .before .before .before .before .before .before .before .is-revisable .ensures) ∙ not-false _ (c .before .before .before .before .before .before .before .before .before .before .before .before .before .before .if2 .left) in
     let S = sum-kept d z t (T .sum k) in
-    let R : toZ w64 (ofZ w64 (c .before .before .before .before .before .before .before .before .before .before .outstanding .result)) ≡ outstanding d = back (c .before .before .before .before .before .before .before .before .before .before .outstanding .ensures .1) (lit< tt) ∙ c .before .before .before .before .before .before .before .before .before .before .outstanding .ensures .0 ∙ outstanding-is d z t S in
-    let m = sym (ap (no-more (a .tolerance)) R) ∙ sym (c .before .before .before .before .before .before .before .before .before .size-at-most .ensures) in
+    let R : toZ w64 (ofZ w64 (c .before .before .before .before .before .before .before .before .before .before .before .before .outstanding .result)) ≡ outstanding d = back (c .before .before .before .before .before .before .before .before .before .before .before .before .outstanding .ensures .1) (lit< tt) ∙ c .before .before .before .before .before .before .before .before .before .before .before .before .outstanding .ensures .0 ∙ outstanding-is d z t S in
+    let m = sym (ap (no-more (a .tolerance)) R) ∙ sym (c .before .before .before .before .before .before .before .before .before .before .before .size-at-most .ensures) in
     let w = wholes-are d z t (a .column .now) (T .wholes k) in
-    let n = sym (ap negative w) ∙ sym (c .before .before .before .before .before .before .any-negative .ensures) in
+    let n = sym (ap negative w) ∙ sym (c .before .before .before .before .before .before .before .before .any-negative .ensures) in
     let A = c .before .before .assign .ensures in
     let g = shares-are d z t (a .column .now) (T .wholes k) R in
     let W = sym (ap₂ (λ x y. any-large (zipWith _+ℤ_ x y)) (numbered-are d z t (a .column .now) (T .wholes k)) g) in
     let y = not-false _ (c .if5 .left) in
     let q = A .revisions y ∙ ap (λ x. zipWith _+ℤ_ (a .revision .now) (padded USERS (pos 0) x)) g in
     record {
-      is = revise-done d z t (a .tolerance) o (m ∙ c .before .before .before .before .before .before .before .before .if3 .left) (n ∙ c .before .before .before .before .before .if4 .left) (W ∙ not-true _ (sym (A .is) ∙ y)) R q;
+      is = revise-done d z t (a .tolerance) o (m ∙ c .before .before .before .before .before .before .before .before .before .before .if3 .left) (n ∙ c .before .before .before .before .before .before .before .if4 .left) (W ∙ not-true _ (sym (A .is) ∙ y)) R q;
       taken = t;
     }
 
@@ -241,6 +255,7 @@ revise-test-spec =
     any-negative-requires
     same-length-4
     returns-4
+    size-requires
     slice-aggregate-assign
     assign-requires
     same-length-5

@@ -4,14 +4,17 @@ use mathlib.Core.Bool.{Bool, true, false, not}
 use mathlib.Core.List.{List, [], _∷_, _++_, map}
 use Prim.Native.Nat.{ℕ, suc, _+_, _-_, _*_, _≤_, _<_}
 use native.Mathlib.Omega.{arith}
-use lib.Dec.{leb, eqb}
+use lib.Dec.{leb, eqb, lit<}
 use lib.IntN.{ℤ, pos, natAbs}
 use lib.ListN.{length, getD, take, drop, replicate, length-map}
+use mir.Syntax.{w64}
+use mir.Val.{ofZ, toZ}
 use borrow.Author.Tests.{leb-true, eqb-true, ne-eqb}
-use Rattle.numbers.specs.Sums.{atZ}
+use Rattle.numbers.specs.Sums.{atZ, totalZ}
 use Rattle.numbers.specs.Lists.{both, either, every, rising}
-use Rattle.numbers.specs.Amounts.{Within}
-use Rattle.numbers.proofs.Sums.{length-table}
+use Rattle.numbers.specs.Amounts.{SAFE, Within}
+use Rattle.numbers.proofs.Sums.{length-table, totalZ-sum}
+use Rattle.numbers.proofs.Amounts.{back, widen, within-sum}
 use Rattle.numbers.proofs.Lists.{all-every, all-map, both-snd}
 use Rattle.proration.specs.Proration.{prorateZ}
 use Rattle.proration.proofs.Signs.{lengthZ}
@@ -196,6 +199,13 @@ module _ (rs : StandInRows) (n r : ℕ) (u : Usable rs n r) (ul : length (rs .us
       (all-map (λ x. no-more AMOUNT x ≡ true) _ (λ x h. leb-true (natAbs x) AMOUNT h) (amounts-of ps)
       (all-every (no-more AMOUNT) (amounts-of ps)
       (both-snd (rising (users-of ps)) _ (both-snd (every is-number (users-of ps)) _ (both-snd (leb (length ps) USERS) _ row-ok))))) i)
+
+  -- the sum of its amounts, also as the code holds it
+  pub sum-safe : Within SAFE (totalZ zs)
+  sum-safe = rw (totalZ-sum zs) (widen (within-sum AMOUNT (atZ zs) amounts-small (length zs)) (omega (arith, same-long, users-few)))
+
+  pub sum-kept : {x : ℤ} → x ≡ totalZ zs → toZ w64 (ofZ w64 x) ≡ totalZ zs
+  sum-kept e = rw e (back sum-safe (lit< tt))
 
   -- ---- its tests
 

@@ -6,6 +6,7 @@ use mathlib.Core.List.{map}
 use lib.IntN.{natAbs}
 use lib.ListN.{length}
 use mir.Facts.{toZ-ofZ}
+use Rattle.numbers.specs.Sums.{total}
 use Rattle.numbers.proofs.Amounts.{widen}
 use Rattle.columns.proofs.Shared.{fitted, sizes-long, sizes-bounded}
 use Rattle.columns.proofs.shares.Sharing.{all-keys, shared-out}
@@ -19,21 +20,15 @@ keys-of-requires c κs = search needs
 sizes-of-requires : tie.Need-sizes-of-requires
 sizes-of-requires c κs = (omega arith, λ i. widen (c .before .before .before .before .before .before .before .before .pre .0 .4 i) (lit≤ tt))
 
-weight-total-requires : tie.Need-weight-total-requires
-weight-total-requires c κs =
-    let a = c .before .before .before .before .before .before .before .before .before .before .before .before .args in
-    let p = c .before .before .before .before .before .before .before .before .before .before .before .before .pre in
-    let w = fitted (length (a .amounts .now)) (map natAbs (a .amounts .now)) (a .weights .now) (c .before .before .before .sizes-of .ensures) (p .1 .1 ∙ sym (p .0 .3)) in
-    (omega (arith, sizes-long (a .amounts .now) w), sizes-bounded (a .amounts .now) w (p .0 .4))
-
 prorate-signed-requires : tie.Need-prorate-signed-requires
 prorate-signed-requires c κs =
-    let a = c .before .before .before .before .before .before .before .before .before .before .before .before .before .before .before .before .args in
-    let p = c .before .before .before .before .before .before .before .before .before .before .before .before .before .before .before .before .pre in
-    let k = all-keys (a .users .now) (a .keys .now) (c .before .before .before .before .before .before .before .before .before .before .before .keys-of .ensures) (p .1 .0) in
-    let w = fitted (length (a .amounts .now)) (map natAbs (a .amounts .now)) (a .weights .now) (c .before .before .before .before .before .before .before .sizes-of .ensures) (p .1 .1 ∙ sym (p .0 .3)) in
+    let s = c .before .before .before .before .before .before .before .before .before .before .before .before .before .before in
+    let a = s .args in
+    let p = s .pre in
+    let k = all-keys (a .users .now) (a .keys .now) (c .before .before .before .before .before .before .before .before .before .keys-of .ensures) (p .1 .1) in
+    let w = fitted (length (a .amounts .now)) (map natAbs (a .amounts .now)) (a .weights .now) (c .before .before .before .before .before .sizes-of .ensures) (p .1 .2 ∙ sym (p .0 .3)) in
     let l = sizes-long (a .amounts .now) w in
-    ((rw (toZ-ofZ (c .before .before .before .before .before .before .before .before .before .before .before .before .before .before .before .before .fits .amount)) (p .0 .0), c .before .before .before .weight-total .ensures, omega arith, omega arith, sizes-bounded (a .amounts .now) w (p .0 .4)), (omega (arith, ap length k), omega arith))
+    ((rw (toZ-ofZ (s .fits .amount)) (p .0 .0), p .1 .0 ∙ sym (ap total w), omega arith, omega arith, sizes-bounded (a .amounts .now) w (p .0 .4)), (omega (arith, ap length k), omega arith))
 
 same-length : tie.Need-same-length
 same-length c = search needs
@@ -46,11 +41,12 @@ same-length-3 c = search needs
 
 returns : tie.Need-returns
 returns c =
-    let a = c .before .before .before .before .before .before .before .before .before .before .before .before .before .before .before .before .before .before .args in
-    let p = c .before .before .before .before .before .before .before .before .before .before .before .before .before .before .before .before .before .before .pre in
-    let k = all-keys (a .users .now) (a .keys .now) (c .before .before .before .before .before .before .before .before .before .before .before .before .before .keys-of .ensures) (p .1 .0) in
-    let w = fitted (length (a .amounts .now)) (map natAbs (a .amounts .now)) (a .weights .now) (c .before .before .before .before .before .before .before .before .before .sizes-of .ensures) (p .1 .1 ∙ sym (p .0 .3)) in
-    shared-out (a .amount) (a .users .now) (a .amounts .now) (a .shares .now) k w (p .0 .3) (rw (toZ-ofZ (c .before .before .before .before .before .before .before .before .before .before .before .before .before .before .before .before .before .before .fits .amount)) at (c .before .prorate-signed .ensures))
+    let s = c .before .before .before .before .before .before .before .before .before .before .before .before .before .before .before .before in
+    let a = s .args in
+    let p = s .pre in
+    let k = all-keys (a .users .now) (a .keys .now) (c .before .before .before .before .before .before .before .before .before .before .before .keys-of .ensures) (p .1 .1) in
+    let w = fitted (length (a .amounts .now)) (map natAbs (a .amounts .now)) (a .weights .now) (c .before .before .before .before .before .before .before .sizes-of .ensures) (p .1 .2 ∙ sym (p .0 .3)) in
+    shared-out (a .amount) (a .users .now) (a .amounts .now) (a .shares .now) k w (p .0 .3) (rw (toZ-ofZ (s .fits .amount)) at (c .before .prorate-signed .ensures))
 
 pub share-by-spec : {M : Type 1} → statement M
 share-by-spec =
@@ -58,7 +54,6 @@ share-by-spec =
     (tie.spec
     keys-of-requires
     sizes-of-requires
-    weight-total-requires
     prorate-signed-requires
     same-length
     same-length-2

@@ -33,7 +33,7 @@ share-by-requires c κs =
     let n = length (c .before .before .before .before .before .before .args .users .now) in
     let k = take-long USERS n 0 (c .before .before .before .before .column .ensures) (omega arith) in
     let w = take-long USERS n 0 (c .before .before .before .column2 .ensures) (omega arith) in
-    ((rw (toZ-ofZ (c .before .before .before .before .before .before .fits .amount)) (p .0 .0), p .0 .1, p .0 .2, p .0 .3, p .0 .4), (sym k, sym w, p .1))
+    ((rw (toZ-ofZ (c .before .before .before .before .before .before .fits .amount)) (p .0 .0), p .0 .1, p .0 .2, p .0 .3, p .0 .4), (p .1 .0, sym k, sym w, p .1 .1))
 
 same-length : tie.Need-same-length
 same-length c = search needs

@@ -36,7 +36,7 @@ share-out-requires : tie.Need-share-out-requires
 share-out-requires c κs =
     let s = c .before .before .before .before .before in
     let h = s .pre in
-    ((rw (toZ-ofZ (s .fits .amount)) (h .amount), h .some, h .few, first-long h, h .wholes), omega (arith, h .few))
+    ((rw (toZ-ofZ (s .fits .amount)) (h .amount), h .some, h .few, first-long h, h .wholes), (h .sum, omega (arith, h .few)))
 
 slice-reshare-prefix-add-columns : tie.Need-slice-reshare-prefix-add-columns
 slice-reshare-prefix-add-columns c = search needs

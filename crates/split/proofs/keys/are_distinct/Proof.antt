@@ -1,8 +1,10 @@
 -- `split::keys::are_distinct` meets its contract: the keys passed so far are distinct, and their buckets are marked. Assumes nothing.
-use mathlib.Core.Path.{sym, _∙_}
+use mathlib.Core.Path.{sym, ap, _∙_}
 use Prim.Native.Nat.{_-_, _≤_}
 use lib.ListN.{length}
-use Rattle.split.proofs.keys.Scanning.{Scanned, scanned-none, scanned-more, scanned-twice, scanned-all}
+use lib.Seq.{take-all, take-length}
+use Rattle.numbers.specs.Lists.{distinct}
+use Rattle.numbers.proofs.Buckets.{Scanned, scanned-none, scanned-more, scanned-twice}
 use borrow.Author.Needs.{needs}
 use native.Mathlib.Omega.{arith}
 use Rattle.split.proofs.keys.are_distinct.Statement.{statement}
@@ -35,7 +37,8 @@ stands-before-requires c κs = search needs
 returns : tie.Need-returns Inv-loop μ-loop
 returns c =
     let ks = c .before .before .before .before .before .before .before .args .keys .now in
-    scanned-twice ks (c .before .before .before .before .loop .i) (omega arith) (c .before .before .before .before .loop .marked) (sym (c .before .stands-before .ensures) ∙ c .if1 .taken)
+    let l = c .before .before .before .before .loop in
+    sym (ap distinct (sym (take-length ks)) ∙ scanned-twice ks (l .marked) (l .i) (length ks) (omega arith) (omega arith) (sym (c .before .stands-before .ensures) ∙ c .if1 .taken))
 
 array-write-marked : tie.Need-array-write-marked Inv-loop μ-loop
 array-write-marked c = search needs
@@ -49,10 +52,11 @@ loop-less c = search needs
 loop-again : tie.Need-loop-again Inv-loop μ-loop
 loop-again c =
     let ks = c .before .before .before .before .before .before .before .args .keys .now in
-    (omega arith, scanned-more ks (c .before .before .before .before .loop .i) (omega arith) (c .before .before .before .before .loop .marked) (c .before .before .before .before .loop .inv .1) (sym (c .before .stands-before .ensures) ∙ c .if1 .left))
+    let l = c .before .before .before .before .loop in
+    (omega arith, scanned-more ks (l .marked) (l .i) (omega arith) (l .inv .1) (sym (c .before .stands-before .ensures) ∙ c .if1 .left))
 
 returns-2 : tie.Need-returns-2 Inv-loop μ-loop
-returns-2 c = scanned-all (c .before .before .before .before .args .keys .now) (c .before .loop .marked) (c .before .loop .i) (omega arith) (c .before .loop .inv .1)
+returns-2 c = sym (ap distinct (sym (take-all (c .before .loop .i) (c .before .before .before .before .args .keys .now) (omega arith))) ∙ c .before .loop .inv .1 .apart)
 
 pub are-distinct-spec : {M : Type 1} → statement M
 are-distinct-spec =

@@ -2,14 +2,15 @@
 use mathlib.Core.Path.{sym, ap, _∙_}
 use native.Mathlib.Omega.{arith}
 use borrow.Author.Needs.{needs}
-use lib.Dec.{lit<}
-use lib.IntN.{pos}
+use lib.Dec.{lit<, lit≤}
+use lib.IntN.{pos, natAbs}
 use lib.ListN.{length, length-replicate}
 use Rattle.numbers.specs.Amounts.{Within}
-use Rattle.numbers.proofs.Amounts.{back}
+use Rattle.numbers.proofs.Amounts.{back, widen}
 use Rattle.point_day.specs.Limits.{USERS, LIMIT}
+use Rattle.columns.proofs.Shared.{sizes-sum}
 use Rattle.stand_in.specs.Rows.{rows}
-use Rattle.stand_in.proofs.opening.Standing.{count-few, users-few, users-some, same-long, amounts-small, row-negative, row-large, row-passes}
+use Rattle.stand_in.proofs.opening.Standing.{count-few, users-few, users-some, same-long, amounts-small, sum-safe, sum-kept, row-negative, row-large, row-passes}
 use Rattle.stand_in.proofs.opening.row_test.Statement.{statement}
 use Rattle.stand_in.proofs.opening.row_test.Tie as tie
 
@@ -71,12 +72,32 @@ returns c =
     let rs = rows (a .counts .now) (a .users .now) (a .amounts .now) in
     row-negative rs (a .net) (a .row) (s .pre .1) (s .pre .0 .1) (s .pre .0 .2) (sym (c .before .any-negative .ensures) ∙ c .if1 .taken) (a .shares .now)
 
+sum-of-requires : tie.Need-sum-of-requires
+sum-of-requires c κs =
+    let s = c .before .before .before .before .before .before .before in
+    let a = s .args in
+    let rs = rows (a .counts .now) (a .users .now) (a .amounts .now) in
+    let u = s .pre .1 in
+    let ul = s .pre .0 .1 in
+    let zl = s .pre .0 .2 in
+    (omega (arith, same-long rs (a .net) (a .row) u ul zl, users-few rs (a .net) (a .row) u ul zl), λ i. widen (amounts-small rs (a .net) (a .row) u ul zl i) (lit≤ tt))
+
+size-requires : tie.Need-size-requires
+size-requires c κs =
+    let s = c .before .before .before .before .before .before .before .before in
+    let a = s .args in
+    let rs = rows (a .counts .now) (a .users .now) (a .amounts .now) in
+    let u = s .pre .1 in
+    let ul = s .pre .0 .1 in
+    let zl = s .pre .0 .2 in
+    rw (sum-kept rs (a .net) (a .row) u ul zl (c .sum-of .ensures)) (sum-safe rs (a .net) (a .row) u ul zl)
+
 cast-share-out : tie.Need-cast-share-out
-cast-share-out c = omega (arith, c .before .before .before .before .before .before .before .pre .1 .net)
+cast-share-out c = omega (arith, c .before .before .before .before .before .before .before .before .before .pre .1 .net)
 
 share-out-requires : tie.Need-share-out-requires
 share-out-requires c κs =
-    let s = c .before .before .before .before .before .before .before .before in
+    let s = c .before .before .before .before .before .before .before .before .before .before in
     let a = s .args in
     let rs = rows (a .counts .now) (a .users .now) (a .amounts .now) in
     let u = s .pre .1 in
@@ -91,7 +112,10 @@ share-out-requires c κs =
         same-long rs (a .net) (a .row) u ul zl,
         amounts-small rs (a .net) (a .row) u ul zl,
       ),
-      omega (arith, few, ap length (s .pre .0 .3), length-replicate USERS (pos 0)),
+      (
+        c .before .size .ensures ∙ ap natAbs (sum-kept rs (a .net) (a .row) u ul zl (c .before .before .sum-of .ensures)) ∙ sizes-sum _ (sym (c .before .before .before .before .any-negative .ensures) ∙ c .before .before .before .if1 .left),
+        omega (arith, few, ap length (s .pre .0 .3), length-replicate USERS (pos 0)),
+      ),
     )
 
 wholes-too-large-requires : tie.Need-wholes-too-large-requires
@@ -102,12 +126,12 @@ same-length c = search needs
 
 returns-2 : tie.Need-returns-2
 returns-2 c =
-    let s = c .before .before .before .before .before .before .before .before .before .before .before .before .before in
+    let s = c .before .before .before .before .before .before .before .before .before .before .before .before .before .before .before in
     let a = s .args in
     let rs = rows (a .counts .now) (a .users .now) (a .amounts .now) in
     let w : Within LIMIT (pos (a .net)) = record { size = s .pre .1 .net } in
     let shared = rw (back w (lit< tt)) at (c .before .before .before .before .share-out .ensures) in
-    row-large rs (a .net) (a .row) (s .pre .1) (s .pre .0 .1) (s .pre .0 .2) (sym (c .before .before .before .before .before .before .before .any-negative .ensures) ∙ c .before .before .before .before .before .before .if1 .left) (a .shares .now) _ (s .pre .0 .3) shared
+    row-large rs (a .net) (a .row) (s .pre .1) (s .pre .0 .1) (s .pre .0 .2) (sym (c .before .before .before .before .before .before .before .before .before .any-negative .ensures) ∙ c .before .before .before .before .before .before .before .before .if1 .left) (a .shares .now) _ (s .pre .0 .3) shared
     (sym (c .before .wholes-too-large .ensures) ∙ c .if2 .taken)
 
 same-length-2 : tie.Need-same-length-2
@@ -115,12 +139,12 @@ same-length-2 c = search needs
 
 returns-3 : tie.Need-returns-3
 returns-3 c =
-    let s = c .before .before .before .before .before .before .before .before .before .before .before .before .before in
+    let s = c .before .before .before .before .before .before .before .before .before .before .before .before .before .before .before in
     let a = s .args in
     let rs = rows (a .counts .now) (a .users .now) (a .amounts .now) in
     let w : Within LIMIT (pos (a .net)) = record { size = s .pre .1 .net } in
     let shared = rw (back w (lit< tt)) at (c .before .before .before .before .share-out .ensures) in
-    row-passes rs (a .net) (a .row) (s .pre .1) (s .pre .0 .1) (s .pre .0 .2) (sym (c .before .before .before .before .before .before .before .any-negative .ensures) ∙ c .before .before .before .before .before .before .if1 .left) (a .shares .now) _ (s .pre .0 .3) shared
+    row-passes rs (a .net) (a .row) (s .pre .1) (s .pre .0 .1) (s .pre .0 .2) (sym (c .before .before .before .before .before .before .before .before .before .any-negative .ensures) ∙ c .before .before .before .before .before .before .before .before .if1 .left) (a .shares .now) _ (s .pre .0 .3) shared
     (sym (c .before .wholes-too-large .ensures) ∙ c .if2 .left)
 
 pub row-test-spec : {M : Type 1} → statement M
@@ -141,6 +165,8 @@ row-test-spec =
     part-row-amounts-end
     any-negative-requires
     returns
+    sum-of-requires
+    size-requires
     cast-share-out
     share-out-requires
     wholes-too-large-requires
