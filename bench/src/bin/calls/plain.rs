@@ -137,34 +137,57 @@ fn user_numbers(day: &Numbers, count: usize) -> Option<[u16; USERS]> {
     Some(users)
 }
 
-/// All consumption and losses, and the whole amounts, if figures and sums are in range. A cell is tested before it is added, so that nothing
-/// overflows.
+/// All consumption and losses, and the whole amounts, if figures and sums are in range.
 fn figures(day: &Numbers, count: usize) -> Option<(i64, [i64; USERS])> {
-    let most = if day[ALLOTTED] == 1 { AMOUNT } else { 0 };
-    let (mut offtake, mut everything) = (0, 0);
     let mut wholes = [0; USERS];
-    for (user, whole) in wholes[..count].iter_mut().enumerate() {
-        *whole = day[REVISION_AT + user];
-        if !(-most..=most).contains(whole) {
-            return None;
-        }
-        for i in KINDS * user..KINDS * (user + 1) {
-            let (c, l) = (day[CONSUMPTION_AT + i], day[LOSSES_AT + i]);
-            let b = day[BALANCE_AT + i];
-            let right =
-                (0..=LIMIT).contains(&c) && (0..=LIMIT).contains(&l) && (-most..=most).contains(&b);
-            if !right {
-                return None;
-            }
-            offtake += c + l;
-            *whole += c + l + b;
-        }
-        if whole.abs() > AMOUNT {
-            return None;
-        }
-        everything += *whole;
+    let offtake = offtakes(day, &mut wholes[..count])?;
+    if day[ALLOTTED] == 0 {
+        return all_zero(&day[BALANCE_AT..]).then_some((offtake, wholes));
     }
-    (offtake <= LIMIT && (0..=LIMIT).contains(&everything)).then_some((offtake, wholes))
+    let everything = balances(day, &mut wholes[..count])?;
+    (0..=LIMIT).contains(&everything).then_some((offtake, wholes))
+}
+
+fn cells_of(day: &Numbers, at: usize, user: usize) -> &[i64] {
+    &day[at + KINDS * user..at + KINDS * (user + 1)]
+}
+
+/// Consumption and losses of each user, and of all. No bit from 2^31 on in any of them: then nothing overflows, and a sum at or below the
+/// limit has no part above it.
+fn offtakes(day: &Numbers, wholes: &mut [i64]) -> Option<i64> {
+    let (mut bits, mut sum) = (0, 0_i64);
+    for (user, whole) in wholes.iter_mut().enumerate() {
+        let consumption = cells_of(day, CONSUMPTION_AT, user);
+        let losses = cells_of(day, LOSSES_AT, user);
+        let mut own = 0_i64;
+        for (c, l) in consumption.iter().zip(losses) {
+            bits |= c | l;
+            own = own.wrapping_add(*c).wrapping_add(*l);
+        }
+        *whole = own;
+        sum = sum.wrapping_add(own);
+    }
+    (bits as u64 >> 31 == 0 && sum <= LIMIT).then_some(sum)
+}
+
+/// Balances and revision added to each whole amount, and the sum of these; a number that is too large in size has a sign in one of two
+/// differences.
+fn balances(day: &Numbers, wholes: &mut [i64]) -> Option<i64> {
+    let (mut signs, mut sum) = (0, 0_i64);
+    let sign = |x: i64| AMOUNT.wrapping_sub(x) | AMOUNT.wrapping_add(x);
+    for (user, whole) in wholes.iter_mut().enumerate() {
+        let revision = day[REVISION_AT + user];
+        let mut own = whole.wrapping_add(revision);
+        signs |= sign(revision);
+        for b in cells_of(day, BALANCE_AT, user) {
+            signs |= sign(*b);
+            own = own.wrapping_add(*b);
+        }
+        signs |= sign(own);
+        *whole = own;
+        sum = sum.wrapping_add(own);
+    }
+    (signs >= 0).then_some(sum)
 }
 
 fn net(day: &Numbers) -> Option<i64> {
