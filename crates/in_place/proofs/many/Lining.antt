@@ -9,7 +9,7 @@ use lib.ListN.{length, getD, set, length-set, length-map, List·getD-map}
 use lib.Dec.{eqb}
 use mir.Syntax.{w64}
 use mir.Val.{ofZ, toZ}
-use borrow.Author.Tests.{not-true, eqb-true}
+use borrow.Author.Tests.{not-true, eqb-true, ne-eqb}
 use Rattle.numbers.specs.Sums.{pick, table, atZ, total}
 use Rattle.numbers.specs.Amounts.{Within, is-negative}
 use Rattle.numbers.proofs.Lists.{true≢false, both-fst, both-snd}
@@ -235,6 +235,7 @@ first-refused f zero d z t e = refl
 first-refused f (suc n) d z t e =
     ap (λ ls. line-calls ls d) (table-rest f 1 (suc n) (omega arith))
     ∙ stop (f 0) (table (λ i. f (1 + i)) (suc n - 1)) d (line-1 (f 0 .user) (f 0 .kind) (f 0 .consumption) (f 0 .coefficient) d z t e)
+    ∙ ap (λ b. entered (pick b 0 1) 0 0 d) (sym (ne-eqb (suc n) 0 (λ h. omega arith)))
 
 module _ (ns ks cs ps : List ℕ) (xs : List ℤ) where
   pub unequal : same-lengths ns ks cs ps ≡ false → plain 2 (pos 0 ∷ pos 0 ∷ []) xs ≡ plain-lines ns ks cs ps xs
