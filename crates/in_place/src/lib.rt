@@ -1,7 +1,5 @@
 // The calls on a point-day in plain numbers that the caller lends, in place: the tests read the numbers, and what an accepted call changes
 // is written where it stands.
-pub mod many;
-
 ghost use mathlib.Core.Path.{_≡_};
 ghost use mathlib.Core.Bool.{true};
 ghost use mathlib.Core.List.{[], _∷_, _++_, map};

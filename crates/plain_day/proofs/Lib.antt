@@ -1,5 +1,6 @@
 pub mod Lists
 pub mod Ranges
 pub mod Again
+pub mod ReadBack
 pub mod Stores
 pub mod Outcomes

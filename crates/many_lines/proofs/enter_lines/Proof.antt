@@ -1,4 +1,4 @@
--- `in_place::many::enter_lines` meets its contract: the first i lines are accepted. Assumes nothing.
+-- `many_lines::enter_lines` meets its contract: the first i lines are accepted. Assumes nothing.
 use mathlib.Core.Path.{_≡_, refl, ap, _∙_}
 use Prim.Native.Nat.{_+_, _-_, _≤_, _<_}
 use native.Mathlib.Omega.{arith}
@@ -13,11 +13,11 @@ use Rattle.line.specs.Lined.{Lines}
 use Rattle.plain_day.specs.Layout.{CONSUMPTION-AT, LOSSES-AT}
 use Rattle.plain_day.specs.Lines.{line-in}
 use Rattle.plain_day.proofs.Ranges.{laid-length}
-use Rattle.in_place.proofs.many.Lining.{Accepted, few, users-long, sum-small, consumption-room, losses-room, kinds-long, consumptions-long, coefficients-long, none-yet, ended, all-done, accepted-more}
+use Rattle.many_lines.proofs.Lining.{Accepted, few, users-long, sum-small, consumption-room, losses-room, kinds-long, consumptions-long, coefficients-long, none-yet, ended, all-done, accepted-more}
 use borrow.Author.Needs.{needs}
 use native.Mathlib.Omega.{arith}
-use Rattle.in_place.proofs.many.enter_lines.Statement.{statement}
-use Rattle.in_place.proofs.many.enter_lines.Tie as tie
+use Rattle.many_lines.proofs.enter_lines.Statement.{statement}
+use Rattle.many_lines.proofs.enter_lines.Tie as tie
 
 abbrev Inv-loop : tie.InvT-loop
 Inv-loop day₀ slots count offtake users kinds consumptions coefficients hints sum₀ losses₀ i₀ day sum losses i =

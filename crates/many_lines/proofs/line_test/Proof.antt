@@ -1,4 +1,4 @@
--- `in_place::many::line_test` meets its contract, on any point-day that stands so. Assumes nothing.
+-- `many_lines::line_test` meets its contract, on any point-day that stands so. Assumes nothing.
 use mathlib.Core.Path.{_≡_, sym, _∙_}
 use Prim.Native.Nat.{_<_}
 use native.Mathlib.Omega.{arith}
@@ -7,8 +7,8 @@ use Rattle.state.specs.Places.{Placed}
 use Rattle.line.proofs.cells.Ranges.{ranges}
 use Rattle.line.proofs.Lining.{line-2, line-3, line-6, line-passed}
 use borrow.Author.Needs.{needs}
-use Rattle.in_place.proofs.many.line_test.Statement.{statement}
-use Rattle.in_place.proofs.many.line_test.Tie as tie
+use Rattle.many_lines.proofs.line_test.Statement.{statement}
+use Rattle.many_lines.proofs.line_test.Tie as tie
 
 line-right-requires : tie.Need-line-right-requires
 line-right-requires c κs = search needs

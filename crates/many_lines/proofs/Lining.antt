@@ -38,7 +38,7 @@ use Rattle.plain_day.specs.Lines.{Line, Entered, entered, one-more, line-in, li
 use Rattle.plain_day.specs.Plain.{plain}
 use Rattle.plain_day.proofs.Again.{again, day-sized}
 use Rattle.plain_day.proofs.Stores as store
-use Rattle.in_place.specs.Many.{Stands, in-numbers}
+use Rattle.many_lines.specs.Many.{Stands, in-numbers}
 
 -- ---- a line at its cell
 

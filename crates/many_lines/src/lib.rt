@@ -17,7 +17,7 @@ ghost use Rattle.line.specs.Lined.{Tested};
 ghost use Rattle.plain_day.specs.Layout.{LENGTH, is-readable, users-in, day-in};
 ghost use Rattle.plain_day.specs.Plain.{plain};
 ghost use Rattle.plain_day.specs.Lines.{lines-in, line-calls, same-lengths, plain-lines};
-ghost use Rattle.in_place.specs.Many.{HINTS, Stands, in-numbers};
+ghost use Rattle.many_lines.specs.Many.{HINTS, Stands, in-numbers};
 use line::LineTest;
 use line::cells;
 use numbers::OUT_OF_RANGE;

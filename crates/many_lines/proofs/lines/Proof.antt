@@ -1,4 +1,4 @@
--- `in_place::many::lines` meets its contract: its tests one after the other, then the lines. Assumes nothing.
+-- `many_lines::lines` meets its contract: its tests one after the other, then the lines. Assumes nothing.
 use mathlib.Core.Path.{_≡_, refl, sym, ap, _∙_}
 use mathlib.Core.Bool.{true, false}
 use native.Mathlib.Omega.{arith}
@@ -9,10 +9,10 @@ use Rattle.point_day.specs.Struct.{taken}
 use Rattle.point_day.proofs.Taken.{taken-facts}
 use Rattle.plain_day.specs.Layout.{is-readable, allotted-in, day-in}
 use Rattle.plain_day.proofs.Ranges.{laid-length, laid-users}
-use Rattle.in_place.proofs.many.Lining.{slots-long, sum-held, at-start, unequal, unreadable, untaken, lines-done, not-entering}
+use Rattle.many_lines.proofs.Lining.{slots-long, sum-held, at-start, unequal, unreadable, untaken, lines-done, not-entering}
 use borrow.Author.Needs.{needs}
-use Rattle.in_place.proofs.many.lines.Statement.{statement}
-use Rattle.in_place.proofs.many.lines.Tie as tie
+use Rattle.many_lines.proofs.lines.Statement.{statement}
+use Rattle.many_lines.proofs.lines.Tie as tie
 
 same-lengths-requires : tie.Need-same-lengths-requires
 same-lengths-requires c κs = search needs

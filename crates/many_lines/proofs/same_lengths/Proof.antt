@@ -1,11 +1,11 @@
--- `in_place::many::same_lengths` meets its contract. Assumes nothing.
+-- `many_lines::same_lengths` meets its contract. Assumes nothing.
 use mathlib.Core.Path.{refl}
 use lib.ListN.{length}
 use borrow.Author.Tests.{eq-eqb, ne-eqb}
 use borrow.Author.Needs.{needs}
 use native.Mathlib.Omega.{arith}
-use Rattle.in_place.proofs.many.same_lengths.Statement.{statement}
-use Rattle.in_place.proofs.many.same_lengths.Tie as tie
+use Rattle.many_lines.proofs.same_lengths.Statement.{statement}
+use Rattle.many_lines.proofs.same_lengths.Tie as tie
 
 returns : tie.Need-returns
 returns c = rw (ne-eqb (length (c .before .args .users .now)) (length (c .before .args .kinds .now)) (c .if1 .taken)) refl

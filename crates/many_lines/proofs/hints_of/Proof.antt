@@ -1,12 +1,12 @@
--- `in_place::many::hints_of` meets its contract. Assumes nothing.
+-- `many_lines::hints_of` meets its contract. Assumes nothing.
 use mathlib.Core.Path.{_≡_}
 use Prim.Native.Nat.{_-_, _≤_}
 use lib.ListN.{length}
-use Rattle.in_place.specs.Many.{HINTS}
+use Rattle.many_lines.specs.Many.{HINTS}
 use borrow.Author.Needs.{needs}
 use native.Mathlib.Omega.{arith}
-use Rattle.in_place.proofs.many.hints_of.Statement.{statement}
-use Rattle.in_place.proofs.many.hints_of.Tie as tie
+use Rattle.many_lines.proofs.hints_of.Statement.{statement}
+use Rattle.many_lines.proofs.hints_of.Tie as tie
 
 abbrev Inv-loop : tie.InvT-loop
 Inv-loop slots count hints₀ i₀ hints i = (i ≤ count) × (length hints ≡ HINTS)

@@ -1,10 +1,10 @@
--- `in_place::many::refuse_first` meets its contract. Assumes nothing.
+-- `many_lines::refuse_first` meets its contract. Assumes nothing.
 use mathlib.Core.Path.{refl}
 use borrow.Author.Tests.{eq-eqb, ne-eqb}
 use borrow.Author.Needs.{needs}
 use native.Mathlib.Omega.{arith}
-use Rattle.in_place.proofs.many.refuse_first.Statement.{statement}
-use Rattle.in_place.proofs.many.refuse_first.Tie as tie
+use Rattle.many_lines.proofs.refuse_first.Statement.{statement}
+use Rattle.many_lines.proofs.refuse_first.Tie as tie
 
 returns : tie.Need-returns
 returns c = rw (eq-eqb (c .before .args .n) 0 (c .if1 .taken)) refl

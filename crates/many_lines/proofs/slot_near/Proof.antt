@@ -1,9 +1,9 @@
--- `in_place::many::slot_near` meets its contract: a hint that fits is the slot. Assumes nothing.
+-- `many_lines::slot_near` meets its contract: a hint that fits is the slot. Assumes nothing.
 use native.Mathlib.Omega.{arith}
 use Prim.Native.Nat.{_%_}
 use borrow.Author.Needs.{needs}
-use Rattle.in_place.proofs.many.slot_near.Statement.{statement}
-use Rattle.in_place.proofs.many.slot_near.Tie as tie
+use Rattle.many_lines.proofs.slot_near.Statement.{statement}
+use Rattle.many_lines.proofs.slot_near.Tie as tie
 
 shared-slice-read-near : tie.Need-shared-slice-read-near
 shared-slice-read-near c = search needs

@@ -1,10 +1,10 @@
--- `in_place::many::state_test` meets its contract: its parts are those of the point-day. Assumes nothing.
+-- `many_lines::state_test` meets its contract: its parts are those of the point-day. Assumes nothing.
 use mathlib.Core.Path.{_≡_}
 use Rattle.plain_day.specs.Layout.{stage-in, day-in}
 use Rattle.taken.specs.Tested.{TestedState}
 use borrow.Author.Needs.{needs}
-use Rattle.in_place.proofs.many.state_test.Statement.{statement}
-use Rattle.in_place.proofs.many.state_test.Tie as tie
+use Rattle.many_lines.proofs.state_test.Statement.{statement}
+use Rattle.many_lines.proofs.state_test.Tie as tie
 
 no-amounts-requires : tie.Need-no-amounts-requires
 no-amounts-requires c κs = search needs

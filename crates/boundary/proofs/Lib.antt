@@ -1,0 +1,3 @@
+pub mod Named
+pub mod Steps
+pub mod Theorem

@@ -1,0 +1,190 @@
+-- What is stored is read back: the numbers of a point-day are those of no other, and the next call is made on it. Assumes nothing.
+use mathlib.Core.Path.{_≡_, refl, sym, ap, ap₂, _∙_}
+use mathlib.Core.Bool.{Bool, true, false}
+use mathlib.Core.List.{List, [], _∷_, _++_, map, append-assoc}
+use Prim.Native.Nat.{ℕ, suc, _+_, _≤_}
+use native.Mathlib.Omega.{arith}
+use lib.Dec.{leb, eqb}
+use lib.IntN.{ℤ, pos, natAbs}
+use lib.ListN.{length, take, drop, length-append, length-map}
+use lib.Seq.{take-at, drop-at, drop-append-add, take-all}
+use borrow.Author.Tests.{le-leb, eq-eqb}
+use Rattle.numbers.specs.Sums.{bit}
+use Rattle.numbers.specs.Lists.{every}
+use Rattle.numbers.proofs.Lists.{All, true≢false, both-fst, both-snd, both-true}
+use Rattle.point_day.specs.Fields.{same-fields}
+use Rattle.point_day.specs.Limits.{USERS, CELLS, LIMIT, LAST-NUMBER}
+use Rattle.point_day.specs.Day.{is-measured, measurement-right}
+use Rattle.point_day.specs.Struct.{Sized, Outcome}
+use Rattle.point_day.specs.declared.PointDay.{PointDay}
+use Rattle.point_day.specs.declared.Stage.{Stage}
+use Rattle.point_day.specs.declared.Stage.the-variants.{Provisional, FinalProvisional, FinalDefinitive}
+use Rattle.point_day.specs.declared.Measurement.{Measurement}
+use Rattle.point_day.specs.declared.Measurement.the-variants.{Unmeasured, Measured}
+use Rattle.plain_day.specs.Layout.{LENGTH, up-to, emissions-readable, head-readable, is-readable, stage-of, measurement-of, day-in, stage-number, emission-number, downstream-number, stored, numbers-of}
+use Rattle.plain_day.specs.Plain.{given, plain-call}
+
+-- ---- five lists one after the other
+
+module _ {A : Type 0} (u c l b r : List A) (eu : length u ≡ USERS) (ec : length c ≡ CELLS) (el : length l ≡ CELLS) (eb : length b ≡ CELLS) (er : length r ≡ USERS) where
+  abbrev five : List A
+  five = u ++ c ++ l ++ b ++ r
+
+  regroup : five ≡ u ++ (c ++ (l ++ (b ++ r)))
+  regroup = simp append-assoc
+
+  skip : (p q : List A) (i j : ℕ) → length p ≡ i → drop (i + j) (p ++ q) ≡ drop j q
+  skip p q i j e = ap (λ k. drop (k + j) (p ++ q)) (sym e) ∙ drop-append-add p q j
+
+  first : take USERS five ≡ u
+  first = ap (take USERS) regroup ∙ take-at u (c ++ (l ++ (b ++ r))) USERS eu
+
+  second : take CELLS (drop USERS five) ≡ c
+  second = ap (λ x. take CELLS (drop USERS x)) regroup ∙ ap (take CELLS) (drop-at u (c ++ (l ++ (b ++ r))) USERS eu) ∙ take-at c (l ++ (b ++ r)) CELLS ec
+
+  third : take CELLS (drop (USERS + CELLS) five) ≡ l
+  third =
+      ap (λ x. take CELLS (drop (USERS + CELLS) x)) regroup
+      ∙ ap (take CELLS) (skip u (c ++ (l ++ (b ++ r))) USERS CELLS eu ∙ drop-at c (l ++ (b ++ r)) CELLS ec)
+      ∙ take-at l (b ++ r) CELLS el
+
+  fourth : take CELLS (drop (USERS + (CELLS + CELLS)) five) ≡ b
+  fourth =
+      ap (λ x. take CELLS (drop (USERS + (CELLS + CELLS)) x)) regroup
+      ∙ ap (take CELLS) (skip u (c ++ (l ++ (b ++ r))) USERS (CELLS + CELLS) eu ∙ skip c (l ++ (b ++ r)) CELLS CELLS ec ∙ drop-at l (b ++ r) CELLS el)
+      ∙ take-at b r CELLS eb
+
+  fifth : take USERS (drop (USERS + (CELLS + (CELLS + CELLS))) five) ≡ r
+  fifth =
+      ap (λ x. take USERS (drop (USERS + (CELLS + (CELLS + CELLS))) x)) regroup
+      ∙ ap (take USERS) (skip u (c ++ (l ++ (b ++ r))) USERS (CELLS + (CELLS + CELLS)) eu ∙ skip c (l ++ (b ++ r)) CELLS (CELLS + CELLS) ec ∙ skip l (b ++ r) CELLS CELLS el ∙ drop-at b r CELLS eb)
+      ∙ take-all USERS r (omega arith)
+
+  five-long : length five ≡ USERS + (CELLS + (CELLS + (CELLS + USERS)))
+  five-long = simp length-append (omega arith)
+
+-- ---- the numbers before the arrays, read
+
+stage-back : (s : Stage) → stage-of (stage-number s) ≡ s
+stage-back Provisional = refl
+stage-back FinalProvisional = refl
+stage-back FinalDefinitive = refl
+
+flag-back : (b : Bool) → eqb (bit b) 1 ≡ b
+flag-back true = refl
+flag-back false = refl
+
+-- whatever stands there of an unmeasured one
+measurement-back : (m : Measurement) (x y : ℤ) → measurement-of (bit (is-measured m)) (natAbs (emission-number m x)) (natAbs (downstream-number m y)) ≡ m
+measurement-back Unmeasured x y = refl
+measurement-back (Measured e w) x y = refl
+
+users-back : (us : List ℕ) → map natAbs (map pos us) ≡ us
+users-back [] = refl
+users-back (u ∷ us) = ap (λ t. u ∷ t) (users-back us)
+
+-- ---- and in range
+
+stage-up : (s : Stage) → up-to 2 (pos (stage-number s)) ≡ true
+unfolding up-to
+stage-up Provisional = refl
+stage-up FinalProvisional = refl
+stage-up FinalDefinitive = refl
+
+flag-up : (b : Bool) → up-to 1 (pos (bit b)) ≡ true
+unfolding up-to
+flag-up true = refl
+flag-up false = refl
+
+emissions-up : (m : Measurement) → measurement-right m ≡ true → emissions-readable (emission-number m (pos 0)) (downstream-number m (pos 0)) ≡ true
+unfolding emissions-readable up-to
+emissions-up Unmeasured h = refl
+emissions-up (Measured e w) h = h
+
+count-up : (n : ℕ) → n ≤ USERS → up-to USERS (pos n) ≡ true
+unfolding up-to
+count-up n h = le-leb n USERS h
+
+users-up : (us : List ℕ) → All (λ n. n ≤ LAST-NUMBER) us → every (up-to LAST-NUMBER) (map pos us) ≡ true
+unfolding every up-to
+users-up [] h = refl
+users-up (u ∷ us) h = both-true {p = leb u LAST-NUMBER} (le-leb u LAST-NUMBER (h .0)) (users-up us (h .1))
+
+-- ---- the point-day
+
+-- what numbers say of a point-day: its arrays' lengths, at most 64 users, user numbers of 16 bits, emissions within their limits
+pub record Stores (d : PointDay) : Type 0 where
+  pub sized : Sized d
+  pub few : d .count ≤ USERS
+  pub users : All (λ n. n ≤ LAST-NUMBER) (d .users)
+  pub measurement : measurement-right (d .measurement) ≡ true
+
+module _ (d : PointDay) (s : Stores d) where
+  z : Sized d
+  z = s .sized
+
+  eu : length (map pos (d .users)) ≡ USERS
+  eu = length-map (d .users) pos ∙ z .users
+
+  pub read-back : day-in (numbers-of d) ≡ d
+  unfolding day-in stored
+  read-back =
+      let u = map pos (d .users) in
+      let c = d .consumption in
+      let l = d .losses in
+      let b = d .balance in
+      let r = d .revision in
+      same-fields (record {
+        stage = stage-back (d .stage);
+        allotted = flag-back (d .allotted);
+        measurement = measurement-back (d .measurement) (pos 0) (pos 0);
+        count = refl;
+        users = ap (map natAbs) (first u c l b r eu (z .consumption) (z .losses) (z .balance) (z .revision)) ∙ users-back (d .users);
+        consumption = second u c l b r eu (z .consumption) (z .losses) (z .balance) (z .revision);
+        losses = third u c l b r eu (z .consumption) (z .losses) (z .balance) (z .revision);
+        balance = fourth u c l b r eu (z .consumption) (z .losses) (z .balance) (z .revision);
+        revision = fifth u c l b r eu (z .consumption) (z .losses) (z .balance) (z .revision);
+      })
+
+  pub readable-again : is-readable (numbers-of d) ≡ true
+  unfolding is-readable head-readable stored
+  readable-again =
+      let u = map pos (d .users) in
+      let c = d .consumption in
+      let l = d .losses in
+      let b = d .balance in
+      let r = d .revision in
+      let n = five-long u c l b r eu (z .consumption) (z .losses) (z .balance) (z .revision) in
+      both-true (eq-eqb _ LENGTH (ap (λ k. suc (suc (suc (suc (suc (suc k)))))) n))
+      (both-true
+      (both-true (stage-up (d .stage)) (both-true (flag-up (d .allotted)) (both-true (flag-up (is-measured (d .measurement))) (both-true (emissions-up (d .measurement) (s .measurement)) (count-up (d .count) (s .few))))))
+      (ap (every (up-to LAST-NUMBER)) (first u c l b r eu (z .consumption) (z .losses) (z .balance) (z .revision)) ∙ users-up (d .users) (s .users)))
+
+  -- the next call is made on the point-day itself
+  pub next-call : (call : PointDay → Outcome) (vs : List ℤ) → plain-call call vs (numbers-of d) ≡ given (call d .answer) (call d .day) vs (numbers-of d)
+  unfolding plain-call
+  next-call call vs = rw (readable-again, read-back)
+
+-- ---- stored in the place of the numbers of another
+
+module _ (m m′ : Measurement) (h : is-measured m ≡ true → is-measured m′ ≡ true) where
+  emission-over : emission-number m′ (emission-number m (pos 0)) ≡ emission-number m′ (pos 0)
+  emission-over = go m m′ h
+    where
+      go : (m m′ : Measurement) → (is-measured m ≡ true → is-measured m′ ≡ true) → emission-number m′ (emission-number m (pos 0)) ≡ emission-number m′ (pos 0)
+      go Unmeasured m′ h = refl
+      go (Measured e w) Unmeasured h = true≢false (sym (h refl))
+      go (Measured e w) (Measured e′ w′) h = refl
+
+  downstream-over : downstream-number m′ (downstream-number m (pos 0)) ≡ downstream-number m′ (pos 0)
+  downstream-over = go m m′ h
+    where
+      go : (m m′ : Measurement) → (is-measured m ≡ true → is-measured m′ ≡ true) → downstream-number m′ (downstream-number m (pos 0)) ≡ downstream-number m′ (pos 0)
+      go Unmeasured m′ h = refl
+      go (Measured e w) Unmeasured h = true≢false (sym (h refl))
+      go (Measured e w) (Measured e′ w′) h = refl
+
+-- after a call that keeps the measurement or sets it
+pub stored-over : (d d′ : PointDay) → (is-measured (d .measurement) ≡ true → is-measured (d′ .measurement) ≡ true) → stored d′ (numbers-of d) ≡ numbers-of d′
+unfolding stored
+stored-over d d′ h = rw (emission-over (d .measurement) (d′ .measurement) h, downstream-over (d .measurement) (d′ .measurement) h)
