@@ -11,14 +11,14 @@ use Rattle.point_day.specs.Answers.{Answer, refused, done, losses-added, rows-l
 use Rattle.point_day.specs.Struct.{laid, rows-of}
 use Rattle.stand_in.specs.Rows.{rows-in}
 use Rattle.plain_day.specs.Layout.{day-in, numbers-of}
-use Rattle.in_place.proofs.fresh.Reads as fresh
-use Rattle.in_place.proofs.join.Reads as joined
-use Rattle.in_place.proofs.line.Reads as lined
-use Rattle.in_place.proofs.measure.Reads as measured
-use Rattle.in_place.proofs.allot.Reads as allotted
-use Rattle.in_place.proofs.stand_in.Reads as stood-in
-use Rattle.in_place.proofs.revise.Reads as revised
-use Rattle.in_place.proofs.start_final.Reads as restarted
+use Rattle.seatpomelo.proofs.seatpomelo_fresh.Reads as fresh
+use Rattle.seatpomelo.proofs.seatpomelo_join.Reads as joined
+use Rattle.seatpomelo.proofs.seatpomelo_line.Reads as lined
+use Rattle.seatpomelo.proofs.seatpomelo_measure.Reads as measured
+use Rattle.seatpomelo.proofs.seatpomelo_allot.Reads as allotted
+use Rattle.seatpomelo.proofs.seatpomelo_stand_in.Reads as stood-in
+use Rattle.seatpomelo.proofs.seatpomelo_revise.Reads as revised
+use Rattle.seatpomelo.proofs.seatpomelo_start_final.Reads as restarted
 use Rattle.day_book.specs.Calls as call
 use Rattle.day_book.specs.Calls.{Calls, none, _then_}
 use Rattle.day_book.specs.Run.{run}

@@ -12,6 +12,7 @@ ghost use Rattle.stand_in.specs.Rows.{rows-in};
 ghost use Rattle.inventory.specs.Inventory.{Afterwards};
 ghost use Rattle.plain_day.specs.Layout.{day-in};
 ghost use Rattle.plain_day.specs.Plain.{plain, plain-call, plain-fresh};
+ghost use Rattle.plain_day.specs.Lines.{plain-lines};
 ghost use Rattle.in_place.specs.Listing.{plain-inventory, status, row-count};
 ghost use Rattle.calendar.specs.Answers.{answer-of};
 ghost use Rattle.calendar.specs.DayTypes.{type-call};
@@ -109,6 +110,30 @@ pub extern "C" fn seatpomelo_line(
     ensures { λ r. ⌜ plain r (pos (now («losses_added» .exit)) ∷ []) (now (day .exit)) ≡ plain-call (called (line user kind consumption coefficient)) (pos (now («losses_added» .entry)) ∷ []) (now (day .entry)) ⌝ }
 {
     in_place::line(day, user, kind, consumption, coefficient, losses_added)
+}
+
+// Many lines: line after line until one is refused; gives how many were accepted, and the losses that they added, in every case.
+#[no_mangle]
+pub extern "C" fn seatpomelo_lines<'a>(
+    day: &mut [i64],
+    users: &'a [u16],
+    kinds: &'a [u8],
+    consumptions: &'a [u64],
+    coefficients: &'a [u64],
+    accepted: &mut u64,
+    losses_added: &mut u64,
+) -> u8
+    ensures { λ r. ⌜ plain r (pos (now (accepted .exit)) ∷ pos (now («losses_added» .exit)) ∷ []) (now (day .exit)) ≡ plain-lines (now (users .entry)) (now (kinds .entry)) (now (consumptions .entry)) (now (coefficients .entry)) (now (day .entry)) ⌝ }
+{
+    many_lines::lines(
+        day,
+        users,
+        kinds,
+        consumptions,
+        coefficients,
+        accepted,
+        losses_added,
+    )
 }
 
 // Measure.
