@@ -7,7 +7,7 @@ use lib.Dec.{leb, eqb}
 use lib.ListN.{length, getD}
 use borrow.Author.Tests.{leb-true, not-false}
 use Rattle.numbers.specs.Sums.{pick}
-use Rattle.numbers.specs.Lists.{both, every, rising}
+use Rattle.numbers.specs.Lists.{every, rising}
 use Rattle.numbers.proofs.Lists.{All, both-fst, both-snd, all-append}
 use Rattle.point_day.specs.Day.{Pair}
 use Rattle.point_day.specs.Calls.{Verdict, refuse, accept}

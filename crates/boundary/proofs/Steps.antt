@@ -1,8 +1,8 @@
 -- A call on the plain numbers of the day that a book describes: it says what the book would answer, and leaves the plain numbers of the
 -- day that the book describes then. Assumes nothing.
-use mathlib.Core.Path.{_≡_, refl, sym, ap, _∙_, subst⁻¹}
+use mathlib.Core.Path.{_≡_, refl, ap, _∙_, subst⁻¹}
 use mathlib.Core.Bool.{Bool, true, false}
-use mathlib.Core.List.{List, [], _∷_}
+use mathlib.Core.List.{List}
 use Prim.Native.Nat.{ℕ, zero, suc, _-_}
 use native.Mathlib.Omega.{arith}
 use lib.IntN.{ℤ}
@@ -15,7 +15,7 @@ use Rattle.point_day.specs.Answers.{within-tolerance, revision-assigned}
 use Rattle.point_day.specs.Calls.{Verdict, refuse, accept}
 use Rattle.point_day.specs.Struct.{padded, laid, Outcome, called}
 use Rattle.plain_day.specs.Layout.{stored, numbers-of}
-use Rattle.plain_day.specs.Plain.{Plain, plain, given, plain-call}
+use Rattle.plain_day.specs.Plain.{plain, given, plain-call}
 use Rattle.plain_day.proofs.ReadBack.{Stores, next-call, stored-over}
 use Rattle.day_book.specs.Calls.{Call, join, line, lent-line, measure, allot, stand-in, revise, start-final}
 use Rattle.day_book.specs.Run.{move}

@@ -1,5 +1,5 @@
--- What is stored is read back: the numbers of a point-day are those of no other, and the next call is made on it. Assumes nothing.
-use mathlib.Core.Path.{_≡_, refl, sym, ap, ap₂, _∙_}
+-- What is stored is read back: a call on the numbers of a point-day is made on that point-day. Assumes nothing.
+use mathlib.Core.Path.{_≡_, refl, sym, ap, _∙_}
 use mathlib.Core.Bool.{Bool, true, false}
 use mathlib.Core.List.{List, [], _∷_, _++_, map, append-assoc}
 use Prim.Native.Nat.{ℕ, suc, _+_, _≤_}
@@ -11,9 +11,9 @@ use lib.Seq.{take-at, drop-at, drop-append-add, take-all}
 use borrow.Author.Tests.{le-leb, eq-eqb}
 use Rattle.numbers.specs.Sums.{bit}
 use Rattle.numbers.specs.Lists.{every}
-use Rattle.numbers.proofs.Lists.{All, true≢false, both-fst, both-snd, both-true}
+use Rattle.numbers.proofs.Lists.{All, true≢false, both-true}
 use Rattle.point_day.specs.Fields.{same-fields}
-use Rattle.point_day.specs.Limits.{USERS, CELLS, LIMIT, LAST-NUMBER}
+use Rattle.point_day.specs.Limits.{USERS, CELLS, LAST-NUMBER}
 use Rattle.point_day.specs.Day.{is-measured, measurement-right}
 use Rattle.point_day.specs.Struct.{Sized, Outcome}
 use Rattle.point_day.specs.declared.PointDay.{PointDay}
@@ -167,22 +167,15 @@ module _ (d : PointDay) (s : Stores d) where
 
 -- ---- stored in the place of the numbers of another
 
-module _ (m m′ : Measurement) (h : is-measured m ≡ true → is-measured m′ ≡ true) where
-  emission-over : emission-number m′ (emission-number m (pos 0)) ≡ emission-number m′ (pos 0)
-  emission-over = go m m′ h
-    where
-      go : (m m′ : Measurement) → (is-measured m ≡ true → is-measured m′ ≡ true) → emission-number m′ (emission-number m (pos 0)) ≡ emission-number m′ (pos 0)
-      go Unmeasured m′ h = refl
-      go (Measured e w) Unmeasured h = true≢false (sym (h refl))
-      go (Measured e w) (Measured e′ w′) h = refl
+emission-over : (m m′ : Measurement) → (is-measured m ≡ true → is-measured m′ ≡ true) → emission-number m′ (emission-number m (pos 0)) ≡ emission-number m′ (pos 0)
+emission-over Unmeasured m′ h = refl
+emission-over (Measured e w) Unmeasured h = true≢false (sym (h refl))
+emission-over (Measured e w) (Measured e′ w′) h = refl
 
-  downstream-over : downstream-number m′ (downstream-number m (pos 0)) ≡ downstream-number m′ (pos 0)
-  downstream-over = go m m′ h
-    where
-      go : (m m′ : Measurement) → (is-measured m ≡ true → is-measured m′ ≡ true) → downstream-number m′ (downstream-number m (pos 0)) ≡ downstream-number m′ (pos 0)
-      go Unmeasured m′ h = refl
-      go (Measured e w) Unmeasured h = true≢false (sym (h refl))
-      go (Measured e w) (Measured e′ w′) h = refl
+downstream-over : (m m′ : Measurement) → (is-measured m ≡ true → is-measured m′ ≡ true) → downstream-number m′ (downstream-number m (pos 0)) ≡ downstream-number m′ (pos 0)
+downstream-over Unmeasured m′ h = refl
+downstream-over (Measured e w) Unmeasured h = true≢false (sym (h refl))
+downstream-over (Measured e w) (Measured e′ w′) h = refl
 
 -- after a call that keeps the measurement or sets it
 pub stored-over : (d d′ : PointDay) → (is-measured (d .measurement) ≡ true → is-measured (d′ .measurement) ≡ true) → stored d′ (numbers-of d) ≡ numbers-of d′
