@@ -1,4 +1,4 @@
--- The weights of the users, from the cells, slot by slot. Assumes nothing.
+-- The weights of the users, from the cells, slot by slot. Assumes nothing. No exported contract leans on it.
 use mathlib.Core.Bool.{Bool, false}
 use mathlib.Core.List.{List, map}
 use mathlib.Core.Path.{_≡_}
