@@ -1,4 +1,4 @@
--- A point-day after allot, as arrays; what its tests find. Assumes nothing.
+-- A point-day after allot, as arrays; what its tests find. Assumes nothing. No exported contract leans on it.
 use mathlib.Core.Bool.{true}
 use mathlib.Core.List.{List}
 use mathlib.Core.Path.{_≡_}

@@ -1,4 +1,4 @@
--- The users' shares of a balance, from the cells, slot by slot. Assumes nothing.
+-- The users' shares of a balance, from the cells, slot by slot. Assumes nothing. No exported contract leans on it.
 use mathlib.Core.List.{List}
 use Prim.Native.Nat.{ℕ}
 use lib.IntN.{ℤ}

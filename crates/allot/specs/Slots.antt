@@ -1,4 +1,4 @@
--- The cells of a balance, slot by slot. Assumes nothing.
+-- The cells of a balance, slot by slot. Assumes nothing. No exported contract leans on it.
 use mathlib.Core.Bool.{Bool}
 use mathlib.Core.List.{List}
 use Prim.Native.Nat.{ℕ}

@@ -1,4 +1,4 @@
--- The weights of the users, from the cells, slot by slot. Assumes nothing.
+-- The weights of the users, from the cells, slot by slot. Assumes nothing. No exported contract leans on it.
 use mathlib.Core.Bool.{Bool, false}
 use mathlib.Core.List.{List, map}
 use mathlib.Core.Path.{_≡_}
@@ -19,7 +19,7 @@ pub record InRange (xs : List ℤ) : Type 0 where
   pub long : length xs ≡ CELLS
   pub range : (i : ℕ) → Between (pos 0) (pos LIMIT) (atZ xs i)
 
--- both, and "all consumption and losses of a point-day together stay at or below 1,000,000,000"
+-- both, and "All consumption and losses of a point-day together stay at or below 1,000,000,000"
 pub record CellsInRange (cs ls : List ℤ) : Type 0 where
   pub consumption : InRange cs
   pub losses : InRange ls

@@ -1,4 +1,4 @@
--- How large an amount may be so that sums of a million fit into 64 bits. Assumes nothing.
+-- How large an amount may be so that sums of a million fit into 64 bits. Assumes nothing. No exported contract leans on it.
 use Prim.Native.Nat.{ℕ}
 
 abbrev pub SUMMABLE : ℕ

@@ -1,4 +1,5 @@
--- What a program reads from its input: numbers one after the other, little-endian; what is cut short or has no meaning fails. Assumes nothing.
+-- What a program reads from its input: numbers one after the other, little-endian; what is cut short or has no meaning fails. Assumes
+-- nothing. No exported contract leans on it.
 use mathlib.Core.Bool.{Bool, true, false}
 use mathlib.Core.List.{List, [], _∷_}
 use mathlib.Core.Path.{_≡_, refl}

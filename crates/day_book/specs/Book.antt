@@ -236,7 +236,7 @@ unfoldable pub empty-before : List (List Pair) → ℕ
 empty-before [] = 0
 empty-before (ps ∷ rows) = pick (is-empty ps) (suc (empty-before rows)) 0
 
--- "The nearest row with any pair is used", and it is the last of "the number of rows looked at"
+-- "The nearest row with any pair is used", and it is the last of "The number of rows looked at"
 unfoldable pub used-row : List (List Pair) → List Pair
 used-row rows = getD rows (empty-before rows) []
 

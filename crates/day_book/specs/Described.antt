@@ -1,4 +1,5 @@
--- The day that a book describes, in the form in which the calls have it: for proofs and for laws beside the claim. Assumes nothing.
+-- The day that a book describes, in the form in which the calls have it: for proofs, for laws beside the claim, and for the claim on plain
+-- numbers. Assumes nothing.
 use mathlib.Core.List.{map}
 use Prim.Native.Nat.{ℕ}
 use Rattle.point_day.specs.Day.{User, Day}

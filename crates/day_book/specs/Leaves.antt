@@ -55,10 +55,10 @@ Leaves (lent-line n kind c k) x y =
     Stays stage x y × Stays allotted x y × Stays measurement x y × Stays joined-users x y × Stays balances x y × Stays revisions x y
 -- of the measurement "the latest counts"
 Leaves (measure emission downstream) x y = Stays stage x y × Stays allotted x y × (y .users ≡ x .users)
--- the balance is prorated, and "the stage is then allotted"
+-- the balance is prorated, and "The stage is then allotted"
 Leaves allot x y =
     Stays stage x y × Stays measurement x y × Stays joined-users x y × Stays consumptions x y × Stays all-losses x y × Stays revisions x y
--- "Its users join, and net is prorated .. as revision", and "the stage is then allotted"
+-- "Its users join, and net is prorated .. as revision", and "The stage is then allotted"
 Leaves (stand-in rows) x y = Stays stage x y × Stays measurement x y
 -- R is "added to the revisions"
 Leaves revise x y =

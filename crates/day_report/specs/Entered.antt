@@ -1,4 +1,4 @@
--- What the sections of a day file and allot come to, after measure. Assumes nothing.
+-- What the sections of a day file and allot come to, after measure. Assumes nothing. No exported contract leans on it.
 use mathlib.Core.List.{List, [], _∷_, _++_, map}
 use Prim.Native.Nat.{ℕ}
 use Rattle.numbers.specs.Lists.{flat}

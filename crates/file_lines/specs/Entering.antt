@@ -1,5 +1,5 @@
--- While a day file is entered: the point-day that lent arrays stand for, and what calls on it come to: the contracts of the functions
--- that enter a line, a section and all sections. Assumes nothing.
+-- While a day file is entered: the point-day that lent arrays stand for, and what calls on it come to: the contracts of the functions that
+-- enter a line, a section and all sections. Assumes nothing. No exported contract leans on it.
 use mathlib.Core.Path.{_≡_}
 use mathlib.Core.Bool.{true, false}
 use mathlib.Core.List.{List, _++_}

@@ -1,4 +1,4 @@
--- What a line and a user of a day file come to, by their numbers. Assumes nothing.
+-- What a line and a user of a day file come to, by their numbers. Assumes nothing. No exported contract leans on it.
 use mathlib.Core.Bool.{Bool, not}
 use mathlib.Core.List.{List}
 use Prim.Native.Nat.{ℕ, _+_}

@@ -1,4 +1,5 @@
--- Document 01, "Telemetered": the search for the last three real readings, and what it finds. Assumes nothing.
+-- Document 01, "Telemetered": the search for the last three real readings, and what it finds. Assumes nothing. No exported contract leans
+-- on it.
 use mathlib.Core.Bool.{not}
 use mathlib.Core.List.{List}
 use Prim.Native.Nat.{ℕ}

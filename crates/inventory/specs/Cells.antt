@@ -1,4 +1,4 @@
--- The inventory by cells: kind k of slot s is cell 5 × s + k − 1. Assumes nothing.
+-- The inventory by cells: kind k of slot s is cell 5 × s + k − 1. Assumes nothing. No exported contract leans on it.
 use mathlib.Core.List.{List}
 use Prim.Native.Nat.{ℕ, _+_, _/_, _%_}
 use lib.IntN.{ℤ}

@@ -1,4 +1,4 @@
--- What an inventory writes into a lent buffer, and what its tests find. Assumes nothing.
+-- What an inventory writes into a lent buffer, and what its tests find. Assumes nothing. No exported contract leans on it.
 use mathlib.Core.Bool.{true}
 use mathlib.Core.List.{List, _++_}
 use mathlib.Core.Path.{_≡_}

@@ -1,4 +1,4 @@
--- What join writes into a point-day. Assumes nothing.
+-- What join writes into a point-day. Assumes nothing. No exported contract leans on it.
 use mathlib.Core.Bool.{true}
 use mathlib.Core.Path.{_≡_}
 use Prim.Native.Nat.{ℕ, _+_, _<_}

@@ -1,4 +1,4 @@
--- What a line answers and writes at its cell. Assumes nothing.
+-- What a line answers and writes at its cell. Assumes nothing. No exported contract leans on it.
 use mathlib.Core.Bool.{Bool}
 use mathlib.Core.List.{List}
 use Prim.Native.Nat.{ℕ, _+_, _-_, _*_}

@@ -1,4 +1,4 @@
--- What a line writes into a point-day. Assumes nothing.
+-- What a line writes into a point-day. Assumes nothing. No exported contract leans on it.
 use mathlib.Core.List.{List}
 use mathlib.Core.Bool.{true}
 use mathlib.Core.Path.{_≡_}

@@ -1,4 +1,4 @@
--- Many lines on a point-day in plain numbers: what stands while they are entered. Assumes nothing.
+-- Many lines on a point-day in plain numbers: what stands while they are entered. Assumes nothing. No exported contract leans on it.
 use mathlib.Core.Path.{_≡_}
 use mathlib.Core.Bool.{true, false}
 use mathlib.Core.List.{List, [], _∷_}

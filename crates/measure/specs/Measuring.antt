@@ -1,4 +1,4 @@
--- A measure that passes its tests, and what the tests find. Assumes nothing.
+-- A measure that passes its tests, and what the tests find. Assumes nothing. No exported contract leans on it.
 use mathlib.Core.Bool.{true}
 use mathlib.Core.Path.{_≡_}
 use Prim.Native.Nat.{ℕ}

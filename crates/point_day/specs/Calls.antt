@@ -184,7 +184,7 @@ row-right ps =
     both (leb (length ps) USERS)
     (both (every is-number (users-of ps)) (both (rising (users-of ps)) (every (no-more AMOUNT) (amounts-of ps))))
 
--- "The nearest row with any pair is used", and "the number of rows looked at": its place, from 1
+-- "The nearest row with any pair is used", and "The number of rows looked at": its place, from 1
 unfoldable pub nearest-filled : List (List Pair) → List Pair
 nearest-filled [] = []
 nearest-filled ([] ∷ rows) = nearest-filled rows

@@ -14,7 +14,7 @@ pub record Near (a W w s : ℕ) : Type 0 where
   pub above : W * s < a * w + W
   pub below : a * w < W * s + W
 
--- The shares of the amount z over the weights ws, for parties whose keys are distinct. "A share's exact proportion is A × w_i / W":
+-- The shares of the amount z over the weights ws, for parties whose keys are distinct. "a share's exact proportion is A × w_i / W":
 -- a share is less than 1 from it where W × share is less than W from A × w_i.
 pub record Fair (z : ℤ) (ws ks : List ℕ) : Type 0 where
   -- one share for each party, and they add up to the amount

@@ -1,5 +1,5 @@
 -- The text of an allotted point-day, from what a day file's lines left in arrays and the users' shares of the balance: the contract of the
--- function that writes it. Assumes nothing.
+-- function that writes it. Assumes nothing. No exported contract leans on it.
 use mathlib.Core.List.{List, [], _∷_, _++_}
 use Prim.Native.Nat.{ℕ, _*_}
 use lib.IntN.{ℤ, pos, _-ℤ_}

@@ -1,4 +1,5 @@
--- The lines of a report from the arrays of a point-day: the contracts of the functions that write them. Assumes nothing.
+-- The lines of a report from the arrays of a point-day: the contracts of the functions that write them. Assumes nothing. No exported
+-- contract leans on it.
 use mathlib.Core.List.{List, [], _∷_}
 use Prim.Native.Nat.{ℕ}
 use lib.IntN.{ℤ, pos, _+ℤ_}

@@ -1,4 +1,4 @@
--- R assigned, on columns of users. Assumes nothing.
+-- R assigned, on columns of users. Assumes nothing. No exported contract leans on it.
 use mathlib.Core.Bool.{Bool, true, not}
 use mathlib.Core.List.{List, map, zipWith}
 use mathlib.Core.Path.{_≡_}

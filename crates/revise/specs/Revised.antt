@@ -1,4 +1,4 @@
--- What the tests of a revise find. Assumes nothing.
+-- What the tests of a revise find. Assumes nothing. No exported contract leans on it.
 use mathlib.Core.Bool.{true}
 use mathlib.Core.List.{List}
 use mathlib.Core.Path.{_≡_}

@@ -1,4 +1,4 @@
--- What a revision shares out, and what it adds to each user. Assumes nothing.
+-- What a revision shares out, and what it adds to each user. Assumes nothing. No exported contract leans on it.
 use mathlib.Core.List.{List, map}
 use Prim.Native.Nat.{ℕ}
 use lib.IntN.{ℤ, natAbs, _-ℤ_}

@@ -1,4 +1,4 @@
--- A cut among the remainders, by which the code tells who is served. Assumes nothing.
+-- A cut among the remainders, by which the code tells who is served. Assumes nothing. No exported contract leans on it.
 use Prim.Native.Nat.{ℕ, _+_}
 use Rattle.numbers.specs.Sums.{bit}
 use Rattle.proration.specs.Proration.{ahead}

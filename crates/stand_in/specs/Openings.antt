@@ -1,4 +1,5 @@
--- The row that a stand-in uses, its tests and shares, and a point-day opened with a list of users. Assumes nothing.
+-- The row that a stand-in uses, its tests and shares, and a point-day opened with a list of users. Assumes nothing. No exported contract
+-- leans on it.
 use mathlib.Core.Bool.{true}
 use mathlib.Core.List.{List, [], _∷_, _++_, map}
 use mathlib.Core.Path.{_≡_}

@@ -1,4 +1,4 @@
--- A stand-in that passes its tests, and what the tests find. Assumes nothing.
+-- A stand-in that passes its tests, and what the tests find. Assumes nothing. No exported contract leans on it.
 use mathlib.Core.Bool.{true}
 use mathlib.Core.List.{List}
 use mathlib.Core.Path.{_≡_}

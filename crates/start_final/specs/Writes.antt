@@ -1,4 +1,4 @@
--- What start-final writes into the arrays of a point-day, and what its tests find. Assumes nothing.
+-- What start-final writes into the arrays of a point-day, and what its tests find. Assumes nothing. No exported contract leans on it.
 use mathlib.Core.Bool.{true, false}
 use mathlib.Core.Path.{_≡_}
 use Prim.Native.Nat.{ℕ}

@@ -1,4 +1,4 @@
--- What the calls look at, place by place. Assumes nothing.
+-- What the calls look at, place by place. Assumes nothing. No exported contract leans on it.
 use mathlib.Core.Bool.{true, false}
 use mathlib.Core.List.{List}
 use mathlib.Core.Path.{_≡_}

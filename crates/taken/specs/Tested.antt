@@ -1,4 +1,4 @@
--- What the test of a point-day finds. Assumes nothing.
+-- What the test of a point-day finds. Assumes nothing. No exported contract leans on it.
 use mathlib.Core.Bool.{Bool, true, false, not}
 use mathlib.Core.List.{List, _++_}
 use mathlib.Core.Path.{_≡_}
