@@ -65,7 +65,8 @@ fn run(
         Call::Line(line) => {
             let line = (line.user, line.kind, line.consumption, line.coefficient);
             let mut offtake = found.offtake;
-            values.first = enter(day, &mut Places::new(&found), &mut offtake, line)?;
+            let users = &found.users[..found.count];
+            values.first = enter(day, |user| place_of(users, user), &mut offtake, line)?;
             Ok(())
         }
         Call::Lines(lists) => lines(day, &found, lists, values),
@@ -145,7 +146,9 @@ fn figures(day: &Numbers, count: usize) -> Option<(i64, [i64; USERS])> {
         return all_zero(&day[BALANCE_AT..]).then_some((offtake, wholes));
     }
     let everything = balances(day, &mut wholes[..count])?;
-    (0..=LIMIT).contains(&everything).then_some((offtake, wholes))
+    (0..=LIMIT)
+        .contains(&everything)
+        .then_some((offtake, wholes))
 }
 
 fn cells_of(day: &Numbers, at: usize, user: usize) -> &[i64] {
@@ -223,32 +226,38 @@ fn join(day: &mut Numbers, found: &Found, user: u16) -> Result<(), Refusal> {
     Ok(())
 }
 
-/// Where users stand; the last one asked for is found at once.
+fn place_of(users: &[u16], user: u16) -> Option<usize> {
+    users.iter().position(|&u| u == user)
+}
+
+/// Where users stand, for many lines: a table by the number's remainder, whose entry is tested.
 struct Places<'a> {
     users: &'a [u16],
-    last: usize,
+    hints: [u8; 1024],
 }
 
 impl Places<'_> {
-    fn new(found: &Found) -> Places<'_> {
-        Places {
-            users: &found.users[..found.count],
-            last: 0,
+    fn new(users: &[u16]) -> Places<'_> {
+        let mut hints = [0; 1024];
+        for (place, user) in users.iter().enumerate() {
+            hints[usize::from(user % 1024)] = place as u8;
         }
+        Places { users, hints }
     }
 
-    fn of(&mut self, user: u16) -> Option<usize> {
-        if self.users.get(self.last) != Some(&user) {
-            self.last = self.users.iter().position(|&u| u == user)?;
+    fn of(&self, user: u16) -> Option<usize> {
+        let hint = usize::from(self.hints[usize::from(user % 1024)]);
+        if self.users.get(hint) == Some(&user) {
+            return Some(hint);
         }
-        Some(self.last)
+        place_of(self.users, user)
     }
 }
 
 /// Adds a line, and to the sum so far; gives its losses.
 fn enter(
     day: &mut Numbers,
-    places: &mut Places,
+    place_of: impl FnOnce(u16) -> Option<usize>,
     offtake: &mut i64,
     (user, kind, consumption, coefficient): (u16, u8, u64, u64),
 ) -> Result<u64, Refusal> {
@@ -258,7 +267,7 @@ fn enter(
     if user == 0 || !(1..=5).contains(&kind) || consumption > LIMIT as u64 || coefficient > 10_000 {
         return Err(2);
     }
-    let place = places.of(user).ok_or(3)?;
+    let place = place_of(user).ok_or(3)?;
     let losses = (consumption * coefficient + 50_000) / 100_000;
     let together = *offtake + (consumption + losses) as i64;
     if together > LIMIT {
@@ -286,14 +295,14 @@ fn lines(
     {
         return Err(2);
     }
-    let mut places = Places::new(found);
+    let places = Places::new(&found.users[..found.count]);
     let mut offtake = found.offtake;
     let amounts = lists.consumptions.iter().zip(&lists.coefficients);
     for ((&user, &kind), (&consumption, &coefficient)) in
         lists.users.iter().zip(&lists.kinds).zip(amounts)
     {
         let line = (user, kind, consumption, coefficient);
-        values.second += enter(day, &mut places, &mut offtake, line)?;
+        values.second += enter(day, |user| places.of(user), &mut offtake, line)?;
         values.first += 1;
     }
     Ok(())
