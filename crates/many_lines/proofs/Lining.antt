@@ -140,11 +140,11 @@ none-before e = ap₂ (λ p q. entered (e .status) p q (e .day)) (omega arith) (
 one-after : (i a x : ℕ) (e : Entered) → before i a (one-more x e) ≡ before (i + 1) (a + x) e
 one-after i a x e = ap₂ (λ p q. entered (e .status) p q (e .day)) (omega arith) (omega arith)
 
-stop : (l : Line) (ls : List Line) (d : PointDay) {r : ℕ} → outcome (refused r) d ≡ called (calls.line (l .user) (l .kind) (l .consumption) (l .coefficient)) d → line-calls (l ∷ ls) d ≡ entered r 0 0 d
+pub stop : (l : Line) (ls : List Line) (d : PointDay) {r : ℕ} → outcome (refused r) d ≡ called (calls.line (l .user) (l .kind) (l .consumption) (l .coefficient)) d → line-calls (l ∷ ls) d ≡ entered r 0 0 d
 unfolding line-calls
 stop l ls d o = rw (← o) refl
 
-go-on : (l : Line) (ls : List Line) (d : PointDay) {x : ℕ} {d′ : PointDay} → outcome (losses-added x) d′ ≡ called (calls.line (l .user) (l .kind) (l .consumption) (l .coefficient)) d
+pub go-on : (l : Line) (ls : List Line) (d : PointDay) {x : ℕ} {d′ : PointDay} → outcome (losses-added x) d′ ≡ called (calls.line (l .user) (l .kind) (l .consumption) (l .coefficient)) d
     → line-calls (l ∷ ls) d ≡ one-more x (line-calls ls d′)
 unfolding line-calls
 go-on l ls d o = rw (← o) refl

@@ -6,10 +6,10 @@ use Prim.Native.Nat.{ℕ, suc, _+_, _≤_}
 use native.Mathlib.Omega.{arith}
 use lib.Dec.{leb, eqb}
 use lib.IntN.{ℤ, pos, natAbs}
-use lib.ListN.{length, take, drop, length-append, length-map}
+use lib.ListN.{length, take, drop, replicate, length-append, length-map}
 use lib.Seq.{take-at, drop-at, drop-append-add, take-all}
 use borrow.Author.Tests.{le-leb, eq-eqb}
-use Rattle.numbers.specs.Sums.{bit}
+use Rattle.numbers.specs.Sums.{bit, atZ}
 use Rattle.numbers.specs.Lists.{every}
 use Rattle.numbers.proofs.Lists.{All, true≢false, both-true}
 use Rattle.point_day.specs.Fields.{same-fields}
@@ -21,7 +21,7 @@ use Rattle.point_day.specs.declared.Stage.{Stage}
 use Rattle.point_day.specs.declared.Stage.the-variants.{Provisional, FinalProvisional, FinalDefinitive}
 use Rattle.point_day.specs.declared.Measurement.{Measurement}
 use Rattle.point_day.specs.declared.Measurement.the-variants.{Unmeasured, Measured}
-use Rattle.plain_day.specs.Layout.{LENGTH, up-to, emissions-readable, head-readable, is-readable, stage-of, measurement-of, day-in, stage-number, emission-number, downstream-number, stored, numbers-of}
+use Rattle.plain_day.specs.Layout.{LENGTH, EMISSION-AT, DOWNSTREAM-AT, up-to, emissions-readable, head-readable, is-readable, stage-of, measurement-of, day-in, stage-number, emission-number, downstream-number, stored, numbers-of}
 use Rattle.plain_day.specs.Plain.{given, plain-call}
 
 -- ---- five lists one after the other
@@ -96,10 +96,11 @@ unfolding up-to
 flag-up true = refl
 flag-up false = refl
 
-emissions-up : (m : Measurement) → measurement-right m ≡ true → emissions-readable (emission-number m (pos 0)) (downstream-number m (pos 0)) ≡ true
+-- over emissions in range
+emissions-up : (m : Measurement) (x y : ℤ) → measurement-right m ≡ true → emissions-readable x y ≡ true → emissions-readable (emission-number m x) (downstream-number m y) ≡ true
 unfolding emissions-readable up-to
-emissions-up Unmeasured h = refl
-emissions-up (Measured e w) h = h
+emissions-up Unmeasured x y h k = k
+emissions-up (Measured e w) x y h k = h
 
 count-up : (n : ℕ) → n ≤ USERS → up-to USERS (pos n) ≡ true
 unfolding up-to
@@ -126,9 +127,10 @@ module _ (d : PointDay) (s : Stores d) where
   eu : length (map pos (d .users)) ≡ USERS
   eu = length-map (d .users) pos ∙ z .users
 
-  pub read-back : day-in (numbers-of d) ≡ d
+  -- whatever numbers stood there before
+  pub stored-back : (xs : List ℤ) → day-in (stored d xs) ≡ d
   unfolding day-in stored
-  read-back =
+  stored-back xs =
       let u = map pos (d .users) in
       let c = d .consumption in
       let l = d .losses in
@@ -137,7 +139,7 @@ module _ (d : PointDay) (s : Stores d) where
       same-fields (record {
         stage = stage-back (d .stage);
         allotted = flag-back (d .allotted);
-        measurement = measurement-back (d .measurement) (pos 0) (pos 0);
+        measurement = measurement-back (d .measurement) (atZ xs EMISSION-AT) (atZ xs DOWNSTREAM-AT);
         count = refl;
         users = ap (map natAbs) (first u c l b r eu (z .consumption) (z .losses) (z .balance) (z .revision)) ∙ users-back (d .users);
         consumption = second u c l b r eu (z .consumption) (z .losses) (z .balance) (z .revision);
@@ -146,9 +148,10 @@ module _ (d : PointDay) (s : Stores d) where
         revision = fifth u c l b r eu (z .consumption) (z .losses) (z .balance) (z .revision);
       })
 
-  pub readable-again : is-readable (numbers-of d) ≡ true
+  -- emissions in range among them
+  pub stored-readable : (xs : List ℤ) → emissions-readable (atZ xs EMISSION-AT) (atZ xs DOWNSTREAM-AT) ≡ true → is-readable (stored d xs) ≡ true
   unfolding is-readable head-readable stored
-  readable-again =
+  stored-readable xs h =
       let u = map pos (d .users) in
       let c = d .consumption in
       let l = d .losses in
@@ -157,27 +160,39 @@ module _ (d : PointDay) (s : Stores d) where
       let n = five-long u c l b r eu (z .consumption) (z .losses) (z .balance) (z .revision) in
       both-true (eq-eqb _ LENGTH (ap (λ k. suc (suc (suc (suc (suc (suc k)))))) n))
       (both-true
-      (both-true (stage-up (d .stage)) (both-true (flag-up (d .allotted)) (both-true (flag-up (is-measured (d .measurement))) (both-true (emissions-up (d .measurement) (s .measurement)) (count-up (d .count) (s .few))))))
+      (both-true (stage-up (d .stage)) (both-true (flag-up (d .allotted)) (both-true (flag-up (is-measured (d .measurement))) (both-true (emissions-up (d .measurement) (atZ xs EMISSION-AT) (atZ xs DOWNSTREAM-AT) (s .measurement) h) (count-up (d .count) (s .few))))))
       (ap (every (up-to LAST-NUMBER)) (first u c l b r eu (z .consumption) (z .losses) (z .balance) (z .revision)) ∙ users-up (d .users) (s .users)))
 
   -- the next call is made on the point-day itself
-  pub next-call : (call : PointDay → Outcome) (vs : List ℤ) → plain-call call vs (numbers-of d) ≡ given (call d .answer) (call d .day) vs (numbers-of d)
+  pub call-stored : (xs : List ℤ) → emissions-readable (atZ xs EMISSION-AT) (atZ xs DOWNSTREAM-AT) ≡ true
+      → (call : PointDay → Outcome) (vs : List ℤ) → plain-call call vs (stored d xs) ≡ given (call d .answer) (call d .day) vs (stored d xs)
   unfolding plain-call
-  next-call call vs = rw (readable-again, read-back)
+  call-stored xs h call vs = rw (stored-readable xs h, stored-back xs)
+
+  -- ---- its numbers, with zeros for emissions that it has not
+
+  pub read-back : day-in (numbers-of d) ≡ d
+  read-back = stored-back (replicate LENGTH (pos 0))
+
+  pub next-call : (call : PointDay → Outcome) (vs : List ℤ) → plain-call call vs (numbers-of d) ≡ given (call d .answer) (call d .day) vs (numbers-of d)
+  next-call call vs = call-stored (replicate LENGTH (pos 0)) (unfold emissions-readable up-to in refl) call vs
 
 -- ---- stored in the place of the numbers of another
 
-emission-over : (m m′ : Measurement) → (is-measured m ≡ true → is-measured m′ ≡ true) → emission-number m′ (emission-number m (pos 0)) ≡ emission-number m′ (pos 0)
-emission-over Unmeasured m′ h = refl
-emission-over (Measured e w) Unmeasured h = true≢false (sym (h refl))
-emission-over (Measured e w) (Measured e′ w′) h = refl
+emission-over : (m m′ : Measurement) (x : ℤ) → (is-measured m ≡ true → is-measured m′ ≡ true) → emission-number m′ (emission-number m x) ≡ emission-number m′ x
+emission-over Unmeasured m′ x h = refl
+emission-over (Measured e w) Unmeasured x h = true≢false (sym (h refl))
+emission-over (Measured e w) (Measured e′ w′) x h = refl
 
-downstream-over : (m m′ : Measurement) → (is-measured m ≡ true → is-measured m′ ≡ true) → downstream-number m′ (downstream-number m (pos 0)) ≡ downstream-number m′ (pos 0)
-downstream-over Unmeasured m′ h = refl
-downstream-over (Measured e w) Unmeasured h = true≢false (sym (h refl))
-downstream-over (Measured e w) (Measured e′ w′) h = refl
+downstream-over : (m m′ : Measurement) (x : ℤ) → (is-measured m ≡ true → is-measured m′ ≡ true) → downstream-number m′ (downstream-number m x) ≡ downstream-number m′ x
+downstream-over Unmeasured m′ x h = refl
+downstream-over (Measured e w) Unmeasured x h = true≢false (sym (h refl))
+downstream-over (Measured e w) (Measured e′ w′) x h = refl
 
 -- after a call that keeps the measurement or sets it
-pub stored-over : (d d′ : PointDay) → (is-measured (d .measurement) ≡ true → is-measured (d′ .measurement) ≡ true) → stored d′ (numbers-of d) ≡ numbers-of d′
+pub stored-twice : (d d′ : PointDay) (xs : List ℤ) → (is-measured (d .measurement) ≡ true → is-measured (d′ .measurement) ≡ true) → stored d′ (stored d xs) ≡ stored d′ xs
 unfolding stored
-stored-over d d′ h = rw (emission-over (d .measurement) (d′ .measurement) h, downstream-over (d .measurement) (d′ .measurement) h)
+stored-twice d d′ xs h = rw (emission-over (d .measurement) (d′ .measurement) (atZ xs EMISSION-AT) h, downstream-over (d .measurement) (d′ .measurement) (atZ xs DOWNSTREAM-AT) h)
+
+pub stored-over : (d d′ : PointDay) → (is-measured (d .measurement) ≡ true → is-measured (d′ .measurement) ≡ true) → stored d′ (numbers-of d) ≡ numbers-of d′
+stored-over d d′ h = stored-twice d d′ (replicate LENGTH (pos 0)) h
