@@ -9,38 +9,37 @@ ghost use Prim.Native.Nat.{_≤_};
 ghost use lib.IntN.{pos};
 ghost use lib.ListN.{length};
 ghost use Rattle.point_day.specs.Limits.{USERS, CELLS};
-ghost use Rattle.point_day.specs.Fields.{point-day};
 ghost use Rattle.point_day.specs.Calls.{allot};
 ghost use Rattle.point_day.specs.Answers.{answer-of};
 ghost use Rattle.point_day.specs.Struct.{padded, outcome, called};
-ghost use Rattle.point_day.specs.declared.Stage.{Stage};
-ghost use Rattle.state.specs.Places.{Lengths};
-ghost use Rattle.allot.specs.Allotted.{with-balances, TakenWith, Tested};
+ghost use Rattle.allot.specs.Allotted.{with-balances, Tested, Rest, with-rest};
 use point_day::Answer;
 use point_day::CELLS;
 use point_day::Measurement;
 use point_day::Outcome;
 use point_day::PointDay;
+use taken::StateTest;
 
-// The tests of allot on the parts of a taken point-day whose whole amounts sum to `sum`: 0, or the number of the refusal. `cells`, zeros
-// before, are then the balances; `shares` is scratch, for the users' shares and then their whole amounts.
-fn allot_parts<'a>(
+// The tests of allot on a point-day with these parts, of which `state` is the test: 0, or the number of the refusal. `cells`, zeros before,
+// are then the balances; `shares` is scratch, for the users' shares and then their whole amounts.
+pub fn allot_test<'a>(
+    state: StateTest,
     allotted: bool,
     measurement: Measurement,
     n: usize,
     users: &'a [u16],
     consumption: &'a [i64],
     losses: &'a [i64],
-    balance: &'a [i64],
     revision: &'a [i64],
-    sum: i64,
     shares: &mut [i64],
     cells: &mut [i64],
 ) -> u8
-    requires { ⌜ (length (now users) ≡ USERS) × Lengths (now consumption) (now losses) (now balance) (now revision) × (USERS ≤ length (now shares)) × (now cells ≡ padded CELLS (pos 0) []) ⌝ }
-    requires { ⌜ ((stage : Stage) → TakenWith sum (point-day stage allotted measurement n (now users) (now consumption) (now losses) (now balance) (now revision))) ⌝ }
-    ensures { λ r. ⌜ ((stage : Stage) → Tested (now (cells .exit)) (point-day stage allotted measurement n (now (users .entry)) (now (consumption .entry)) (now (losses .entry)) (now (balance .entry)) (now (revision .entry))) r) ⌝ }
+    requires { ⌜ Rest allotted measurement n (now users) (now consumption) (now losses) (now revision) state × (USERS ≤ length (now shares)) × (now cells ≡ padded CELLS (pos 0) []) ⌝ }
+    ensures { λ r. ⌜ ((x : Rest allotted measurement n (now (users .entry)) (now (consumption .entry)) (now (losses .entry)) (now (revision .entry)) state) → Tested (now (cells .exit)) (with-rest x) r) ⌝ }
 {
+    if !state.taken {
+        return numbers::OUT_OF_RANGE;
+    }
     if allotted {
         return numbers::WRONG_STAGE;
     }
@@ -50,6 +49,7 @@ fn allot_parts<'a>(
     if n == 0 {
         return numbers::NO_USER;
     }
+    let sum = state.sum;
     let day_balance = numbers::minus(state::net(measurement) as i64, sum);
     balance::balance_cells(day_balance, consumption, losses, users, n, shares, cells);
     state::whole_amounts(consumption, losses, cells, revision, n, shares);
@@ -57,52 +57,6 @@ fn allot_parts<'a>(
         return numbers::AMOUNT_TOO_LARGE;
     }
     0
-}
-
-// The tests of allot, on the parts of a point-day at any stage: 0, or the number of the refusal. `cells`, zeros before, are then the
-// balances.
-pub fn allot_test<'a>(
-    allotted: bool,
-    measurement: Measurement,
-    n: usize,
-    users: &'a [u16],
-    consumption: &'a [i64],
-    losses: &'a [i64],
-    balance: &'a [i64],
-    revision: &'a [i64],
-    cells: &mut [i64],
-) -> u8
-    requires { ⌜ (length (now users) ≡ USERS) × Lengths (now consumption) (now losses) (now balance) (now revision) × (now cells ≡ padded CELLS (pos 0) []) ⌝ }
-    ensures { λ r. ⌜ ((stage : Stage) → Tested (now (cells .exit)) (point-day stage allotted measurement n (now (users .entry)) (now (consumption .entry)) (now (losses .entry)) (now (balance .entry)) (now (revision .entry))) r) ⌝ }
-{
-    let mut wholes = point_day::no_amounts();
-    let test = taken::test_state(
-        allotted,
-        measurement,
-        n,
-        users,
-        consumption,
-        losses,
-        balance,
-        revision,
-        &mut wholes,
-    );
-    if !test.taken {
-        return numbers::OUT_OF_RANGE;
-    }
-    allot_parts(
-        allotted,
-        measurement,
-        n,
-        users,
-        consumption,
-        losses,
-        balance,
-        revision,
-        test.sum,
-        &mut wholes,
-        cells,
-    )
 }
 
 // The point-day allotted, with these balances.
@@ -120,16 +74,20 @@ fn put_balances(day: PointDay, balance: [i64; CELLS]) -> PointDay
 pub fn allot(day: PointDay) -> Outcome
     ensures { λ r. ⌜ outcome (answer-of (r .answer)) (r .day) ≡ called allot day ⌝ }
 {
+    let mut wholes = point_day::no_amounts();
     let mut cells = point_day::no_cells();
+    let measurement = day.measurement;
+    let state = taken::test_day(day, &mut wholes);
     let number = allot_test(
+        state,
         day.allotted,
-        day.measurement,
+        measurement,
         day.count,
         &day.users,
         &day.consumption,
         &day.losses,
-        &day.balance,
         &day.revision,
+        &mut wholes,
         &mut cells,
     );
     if number != 0 {

@@ -11,7 +11,7 @@ use Rattle.point_day.specs.Day.{fresh}
 use Rattle.point_day.specs.Calls.{verdict, join, line, line-right, cell-step, cell-in, revise-by, revise, stand-in}
 use Rattle.point_day.specs.Struct.{user-at, read, padded, laid, any, faults, taken, called, rows-of}
 use Rattle.stand_in.specs.Rows.{rows-readable, rows-in}
-use Rattle.plain_day.specs.Layout.{LENGTH, MEASURED-AT, EMISSION-AT, DOWNSTREAM-AT, COUNT-AT, USERS-AT, up-to, emissions-readable, head-readable, is-readable, day-in, stored}
+use Rattle.plain_day.specs.Layout.{LENGTH, MEASURED-AT, EMISSION-AT, DOWNSTREAM-AT, up-to, emissions-readable, head-readable, is-readable, day-in, stored}
 use Rattle.plain_day.specs.Plain.{Plain, plain, plain-call, plain-fresh}
 
 -- a fresh point-day, whatever the numbers were: all of them 0

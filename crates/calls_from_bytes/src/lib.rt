@@ -232,16 +232,7 @@ fn print_users(day: PointDay)
 }
 
 fn print_day(day: PointDay) {
-    if !taken::is_taken(
-        day.allotted,
-        day.measurement,
-        day.count,
-        &day.users,
-        &day.consumption,
-        &day.losses,
-        &day.balance,
-        &day.revision,
-    ) {
+    if !taken::is_taken(day) {
         output::refused(OUT_OF_RANGE);
         return;
     }

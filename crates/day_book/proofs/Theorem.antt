@@ -2,7 +2,7 @@
 use mathlib.Core.Path.{_≡_, refl, sym, ap, ap₂, _∙_, subst⁻¹}
 use mathlib.Core.Bool.{Bool, true, false}
 use mathlib.Core.List.{List, [], _∷_, map}
-use Prim.Native.Nat.{ℕ, _≤_}
+use Prim.Native.Nat.{_≤_}
 use lib.IntN.{natAbs, _-ℤ_}
 use Rattle.numbers.specs.Sums.{pick}
 use Rattle.numbers.proofs.Lists.{never, both-fst, both-snd}
@@ -10,7 +10,7 @@ use Rattle.point_day.specs.Day as day
 use Rattle.point_day.specs.Day.{Day, all-whole}
 use Rattle.point_day.specs.Answers.{Answer, within-tolerance, revision-assigned}
 use Rattle.point_day.specs.Calls.{Verdict, refuse, accept}
-use Rattle.point_day.specs.Struct.{read, laid, Outcome, called}
+use Rattle.point_day.specs.Struct.{read, Outcome, called}
 use Rattle.point_day.specs.declared.PointDay.{PointDay}
 use Rattle.point_day.proofs.Good.{allotted, good-sound}
 use Rattle.point_day.proofs.Bounds.{revise-close}

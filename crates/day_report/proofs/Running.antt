@@ -15,7 +15,6 @@ use Rattle.numbers.specs.Lists.{flat}
 use Rattle.numbers.proofs.Sums.{lt-or-ge}
 use Rattle.point_day.specs.Limits.{USERS, CELLS}
 use Rattle.point_day.specs.Day.{fresh, emission-right}
-use Rattle.point_day.specs.Calls as calls
 use Rattle.point_day.specs.Struct.{Sized, padded, laid, taken}
 use Rattle.point_day.specs.declared.Measurement.{Measurement}
 use Rattle.point_day.specs.declared.Measurement.the-variants.{Unmeasured, Measured}

@@ -1,5 +1,5 @@
 -- What the functions return is what demand 3 is about. Assumes nothing.
-use mathlib.Core.Path.{_≡_, subst⁻¹}
+use mathlib.Core.Path.{subst⁻¹}
 use mathlib.Core.List.{List, []}
 use Rattle.point_day.specs.Answers.{Answer}
 use Rattle.point_day.specs.Struct.{rows-of}

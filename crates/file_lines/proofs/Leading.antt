@@ -14,7 +14,8 @@ use Rattle.point_day.specs.Calls.{line-right}
 use Rattle.point_day.specs.declared.Measurement.{Measurement}
 use Rattle.point_day.specs.declared.PointDay.{PointDay}
 use Rattle.point_day.proofs.Back.{flat-snoc}
-use Rattle.line.specs.Cell.{line-losses, past-limit, more, place}
+use Rattle.line.specs.Cell.{line-losses, past-limit, place}
+use Rattle.state.specs.Places.{more}
 use Rattle.day_book.specs.Run.{Call, line}
 use Rattle.day_file.specs.Report.{refused, in-order}
 use Rattle.file_lines.specs.Entering.{entering, Entered, Unless-refused, Comes-to}

@@ -28,7 +28,8 @@ use Rattle.state.proofs.Totals.{offtake-is}
 use Rattle.numbers.proofs.Places.{every-at}
 use Rattle.state.proofs.Cells.{low-from}
 use Rattle.taken.proofs.Facts.{Facts, facts}
-use Rattle.line.specs.Cell.{line-losses, past-limit, more, place, Limited}
+use Rattle.line.specs.Cell.{line-losses, past-limit, place, Limited}
+use Rattle.state.specs.Places.{more}
 use Rattle.line.specs.Lined.{with-cells, lined-at}
 use Rattle.point_day.proofs.Padding.{map-set}
 use Rattle.join.proofs.Joins.{join-2, join-4, join-5, join-done}

@@ -14,7 +14,7 @@ use Rattle.numbers.specs.Lists.{flat}
 use Rattle.numbers.specs.Amounts.{Within}
 use Rattle.numbers.proofs.Lists.{both-fst, both-snd}
 use Rattle.point_day.specs.Limits.{USERS, CELLS, LIMIT, TOLERANCE}
-use Rattle.point_day.specs.Fields.{set-allotted, set-users, set-consumption, set-losses, set-balance, set-revision, set-stage, set-count}
+use Rattle.point_day.specs.Fields.{set-allotted, set-users, set-consumption, set-losses, set-balance, set-revision, set-count}
 use Rattle.point_day.specs.Answers.{done, losses-added, rows-looked-at, within-tolerance, revision-assigned}
 use Rattle.point_day.specs.Calls.{join, line, measure, allot, revise, start-final, stand-in}
 use Rattle.point_day.specs.Day.{next, fresh}
@@ -23,7 +23,7 @@ use Rattle.point_day.specs.declared.PointDay.{PointDay}
 use Rattle.state.proofs.Cells.{low-from}
 use Rattle.taken.proofs.Facts.{Facts, facts}
 use Rattle.join.specs.Appended.{appended, Joins}
-use Rattle.line.specs.Cell.{more}
+use Rattle.state.specs.Places.{more}
 use Rattle.line.specs.Lined.{with-cells, Lines}
 use Rattle.measure.specs.Measuring.{Measures}
 use Rattle.allot.specs.Allotted.{with-balances, Allots}
@@ -177,7 +177,7 @@ module _ (xs : List ℤ) (e : is-readable xs ≡ true) where
         ∙ gives (called (stand-in TOLERANCE (rows-of (rows-in counts users amounts)))) vs xs e (rows-looked-at (k + 1)) (opened-with ns rs d) (S .is)
       where
         few : length (row-users counts users k) ≤ USERS
-        few = omega (arith, length-take-le (getD counts k 0) (drop (USERS * k) users) (omega (arith, length-drop (USERS * k) users, S .users-long, S .found, S .few)), S .few)
+        few = omega (arith, length-take-le (getD counts k 0) (drop (USERS * k) users) (omega (arith, length-drop (USERS * k) users, S .row .users-long, S .row .found, S .row .few)), S .row .few)
 
 -- ---- fresh
 

@@ -1,4 +1,3 @@
 pub mod Effects
-pub mod Clearing
-pub mod Signed
 pub mod Listing
+pub mod Taken

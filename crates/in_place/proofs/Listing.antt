@@ -1,15 +1,18 @@
 -- The inventory of plain numbers, by what the inventory of the point-day is. Assumes nothing.
-use mathlib.Core.Path.{_≡_, refl, sym, ap, subst}
-use mathlib.Core.Bool.{true, false}
+use mathlib.Core.Path.{_≡_, refl, sym, subst}
+use mathlib.Core.Bool.{Bool, true, false}
 use mathlib.Core.List.{List}
 use Prim.Native.Nat.{ℕ, _*_, _≤_}
 use lib.IntN.{ℤ}
 use lib.ListN.{length}
 use Rattle.point_day.specs.Limits.{KINDS, CELLS}
-use Rattle.point_day.specs.Struct.{read}
+use Rattle.numbers.specs.Sums.{pick}
+use Rattle.numbers.specs.Lists.{both}
+use Rattle.point_day.specs.Struct.{read, taken}
 use Rattle.inventory.specs.Inventory.{Answer, refused, written, inventory, Written, Afterwards}
 use Rattle.inventory.specs.Listed.{listed-in, Lists}
 use Rattle.plain_day.specs.Layout.{is-readable, count-in, day-in}
+use Rattle.plain_day.specs.Lines.{is-taken}
 use Rattle.in_place.specs.Listing.{plain-inventory, status, row-count}
 
 -- status, count of rows and buffer of an answer
@@ -21,8 +24,12 @@ module _ (xs out : List ℤ) (before : ℕ) where
       → Gives xs out before (plain-inventory xs out) r v after
   as-plain a e r v after g = subst (λ x. Gives xs out before x r v after) e g
 
-  pub unreadable : is-readable xs ≡ false → Gives xs out before (plain-inventory xs out) 2 before out
-  unreadable e = as-plain (refused 2) (unfold plain-inventory in rw e) 2 before out (refl, (refl, refl))
+  pub no-day : is-taken xs ≡ false → Gives xs out before (plain-inventory xs out) 2 before out
+  no-day e = as-plain (refused 2) (unfold plain-inventory inventory in go (is-readable xs) e) 2 before out (refl, (refl, refl))
+    where
+      go : (b : Bool) → both b (taken (day-in xs)) ≡ false → refused 2 ≡ pick b (inventory (day-in xs) out) (refused 2)
+      go true t = unfold inventory in rw t
+      go false t = refl
 
   module _ (e : is-readable xs ≡ true) where
     readable : (a : Answer) → a ≡ inventory (day-in xs) out → a ≡ plain-inventory xs out

@@ -13,7 +13,7 @@ use Rattle.numbers.specs.Lists.{both, flat}
 use Rattle.numbers.specs.Amounts.{is-negative}
 use Rattle.numbers.proofs.Sums.{total-append}
 use Rattle.numbers.proofs.Lists.{map-append}
-use Rattle.numbers.proofs.Amounts.{pos-is}
+use Rattle.numbers.proofs.Amounts.{pos-size}
 use Rattle.point_day.specs.Limits.{KINDS}
 use Rattle.point_day.specs.Day.{is-zero}
 use Rattle.point_day.specs.Calls.{kinds}
@@ -89,7 +89,7 @@ module _ (d : PointDay) (c-right : (i : ℕ) → is-negative (atZ (d .consumptio
         let g : suc k - 1 ≡ k = omega arith in
         ap (λ m. pos (at (d .users) s) ∷ pos (suc k) ∷ pos (at (map natAbs (kinds-of s (d .consumption))) m) ∷ pos (at (map natAbs (kinds-of s (d .losses))) m) ∷ atZ (kinds-of s (d .balance)) m ∷ []) g
         ∙ ap₂ (λ x y. pos (at (d .users) s) ∷ pos (suc k) ∷ pos x ∷ pos y ∷ atZ (kinds-of s (d .balance)) k ∷ []) (size-at (d .consumption) s k l) (size-at (d .losses) s k l)
-        ∙ ap₂ (λ x y. pos (at (d .users) s) ∷ pos (suc k) ∷ x ∷ y ∷ atZ (kinds-of s (d .balance)) k ∷ []) (sym (pos-is _ (c-right i))) (sym (pos-is _ (l-right i)))
+        ∙ ap₂ (λ x y. pos (at (d .users) s) ∷ pos (suc k) ∷ x ∷ y ∷ atZ (kinds-of s (d .balance)) k ∷ []) (sym (pos-size _ (c-right i))) (sym (pos-size _ (l-right i)))
         ∙ ap₂ (λ m n. pos (at (d .users) m) ∷ pos n ∷ atZ (d .consumption) i ∷ atZ (d .losses) i ∷ atZ (kinds-of s (d .balance)) k ∷ []) e f
         ∙ ap (λ z. pos (at (d .users) (i / KINDS)) ∷ pos (i % KINDS + 1) ∷ atZ (d .consumption) i ∷ atZ (d .losses) i ∷ z ∷ []) (kind-at (d .balance) s k (pos 0) l)
 

@@ -3,16 +3,10 @@ pub mod cells;
 pub mod row;
 
 ghost use mathlib.Core.Path.{_≡_};
-ghost use lib.ListN.{length};
-ghost use Rattle.point_day.specs.Limits.{USERS};
-ghost use Rattle.point_day.specs.Fields.{point-day};
 ghost use Rattle.point_day.specs.Struct.{read};
-ghost use Rattle.point_day.specs.declared.Stage.{Stage};
-ghost use Rattle.state.specs.Places.{Lengths};
 ghost use Rattle.inventory.specs.Inventory.{inventory, answer-of, Afterwards};
-ghost use Rattle.inventory.specs.Listed.{Tested};
+ghost use Rattle.inventory.specs.Listed.{Tested, Rest, with-rest};
 use point_day::KINDS;
-use point_day::Measurement;
 use point_day::PointDay;
 use row::ROW;
 
@@ -22,31 +16,20 @@ pub enum InventoryAnswer {
     Rows(usize),
 }
 
-// The tests of an inventory into a buffer of so many numbers, on the parts of a point-day at any stage.
+// The tests of an inventory into a buffer of so many numbers, on a point-day with these parts, taken or not.
 pub fn inventory_test<'a>(
+    is_taken: bool,
     allotted: bool,
-    measurement: Measurement,
     n: usize,
-    users: &'a [u16],
     consumption: &'a [i64],
     losses: &'a [i64],
     balance: &'a [i64],
-    revision: &'a [i64],
     room: usize,
 ) -> InventoryAnswer
-    requires { ⌜ (length (now users) ≡ USERS) × Lengths (now consumption) (now losses) (now balance) (now revision) ⌝ }
-    ensures { λ r. ⌜ ((stage : Stage) → Tested (point-day stage allotted measurement n (now (users .entry)) (now (consumption .entry)) (now (losses .entry)) (now (balance .entry)) (now (revision .entry))) room r) ⌝ }
+    requires { ⌜ Rest allotted n (now consumption) (now losses) (now balance) «is_taken» ⌝ }
+    ensures { λ r. ⌜ ((x : Rest allotted n (now (consumption .entry)) (now (losses .entry)) (now (balance .entry)) «is_taken») → Tested (with-rest x) room r) ⌝ }
 {
-    if !taken::is_taken(
-        allotted,
-        measurement,
-        n,
-        users,
-        consumption,
-        losses,
-        balance,
-        revision,
-    ) {
+    if !is_taken {
         return InventoryAnswer::Refused(numbers::OUT_OF_RANGE);
     }
     if !allotted {
@@ -64,15 +47,14 @@ pub fn inventory(day: PointDay, out: &mut [i64]) -> InventoryAnswer
     ensures { λ r. ⌜ answer-of r ≡ inventory day (now (out .entry)) ⌝ }
     ensures { λ r. ⌜ Afterwards (inventory day (now (out .entry))) (read day) (now (out .entry)) (now (out .exit)) ⌝ }
 {
+    let is_taken = taken::is_taken(day);
     let test = inventory_test(
+        is_taken,
         day.allotted,
-        day.measurement,
         day.count,
-        &day.users,
         &day.consumption,
         &day.losses,
         &day.balance,
-        &day.revision,
         out.len(),
     );
     match test {

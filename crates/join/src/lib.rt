@@ -1,17 +1,16 @@
 // Join: a user enters the point-day.
 ghost use mathlib.Core.Path.{_≡_};
-ghost use Prim.Native.Nat.{_<_};
+ghost use mathlib.Core.Bool.{true};
+ghost use Prim.Native.Nat.{_≤_, _<_};
 ghost use lib.ListN.{length};
 ghost use Rattle.point_day.specs.Limits.{USERS};
-ghost use Rattle.point_day.specs.Calls.{refused, join};
+ghost use Rattle.point_day.specs.Calls.{join};
 ghost use Rattle.point_day.specs.Answers.{answer-of};
 ghost use Rattle.point_day.specs.Struct.{outcome, called};
-ghost use Rattle.point_day.specs.declared.Stage.{Stage};
-ghost use Rattle.state.specs.Places.{Lengths};
-ghost use Rattle.point_day.specs.Fields.{point-day};
+ghost use Rattle.point_day.specs.declared.PointDay.{PointDay};
+ghost use Rattle.taken.specs.Tested.{IsTaken};
 ghost use Rattle.join.specs.Appended.{appended, Tested};
 use point_day::Answer;
-use point_day::Measurement;
 use point_day::Outcome;
 use point_day::PointDay;
 use point_day::USERS;
@@ -31,31 +30,12 @@ fn append(day: PointDay, user: u16) -> PointDay
     }
 }
 
-// The tests of a join, on the parts of a point-day at any stage: 0, or the number of the refusal.
-pub fn join_test<'a>(
-    allotted: bool,
-    measurement: Measurement,
-    n: usize,
-    users: &'a [u16],
-    consumption: &'a [i64],
-    losses: &'a [i64],
-    balance: &'a [i64],
-    revision: &'a [i64],
-    user: u16,
-) -> u8
-    requires { ⌜ (length (now users) ≡ USERS) × Lengths (now consumption) (now losses) (now balance) (now revision) ⌝ }
-    ensures { λ r. ⌜ ((stage : Stage) → Tested user (point-day stage allotted measurement n (now (users .entry)) (now (consumption .entry)) (now (losses .entry)) (now (balance .entry)) (now (revision .entry))) r) ⌝ }
+// The tests of a join on a point-day with these parts, taken or not: 0, or the number of the refusal.
+pub fn join_test(is_taken: bool, allotted: bool, n: usize, users: &[u16], user: u16) -> u8
+    requires { ⌜ («is_taken» ≡ true → n ≤ length (now users)) ⌝ }
+    ensures { λ r. ⌜ ((d : PointDay) → IsTaken d «is_taken» → d .allotted ≡ allotted → d .count ≡ n → d .users ≡ now (users .entry) → Tested user d r) ⌝ }
 {
-    if !taken::is_taken(
-        allotted,
-        measurement,
-        n,
-        users,
-        consumption,
-        losses,
-        balance,
-        revision,
-    ) {
+    if !is_taken {
         return numbers::OUT_OF_RANGE;
     }
     if allotted {
@@ -77,17 +57,8 @@ pub fn join_test<'a>(
 pub fn join(day: PointDay, user: u16) -> Outcome
     ensures { λ r. ⌜ outcome (answer-of (r .answer)) (r .day) ≡ called (join user) day ⌝ }
 {
-    let number = join_test(
-        day.allotted,
-        day.measurement,
-        day.count,
-        &day.users,
-        &day.consumption,
-        &day.losses,
-        &day.balance,
-        &day.revision,
-        user,
-    );
+    let is_taken = taken::is_taken(day);
+    let number = join_test(is_taken, day.allotted, day.count, &day.users, user);
     if number != 0 {
         return point_day::refuse(number, day);
     }

@@ -26,7 +26,8 @@ use Rattle.point_day.proofs.Steps.{for-nobody}
 use Rattle.point_day.proofs.Called.{called-refused, called-accepted, test-holds, test-passed, none-left}
 use Rattle.state.specs.Places.{Placed}
 use Rattle.line.specs.Lined.{with-cells, lined-at, Lines}
-use Rattle.line.specs.Cell.{line-losses, past-limit, place, more}
+use Rattle.line.specs.Cell.{line-losses, past-limit, place}
+use Rattle.state.specs.Places.{more}
 use Rattle.line.proofs.cells.Ranges.{ranges}
 use Rattle.point_day.proofs.Padding.{padded-set, map-set, flat-set, at-flat}
 

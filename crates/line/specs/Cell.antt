@@ -3,8 +3,7 @@ use mathlib.Core.Bool.{Bool}
 use mathlib.Core.List.{List}
 use Prim.Native.Nat.{ℕ, _+_, _-_, _*_}
 use lib.Dec.{ltb}
-use lib.IntN.{ℤ, pos, _+ℤ_}
-use lib.ListN.{set}
+use lib.IntN.{ℤ}
 use Rattle.numbers.specs.Sums.{pick, atZ}
 use Rattle.numbers.specs.Amounts.{Within}
 use Rattle.point_day.specs.Limits.{KINDS, LIMIT}
@@ -26,10 +25,6 @@ line-on sum c k = pick (past-limit sum c k) (Refused 6) (Added (line-losses c k)
 -- the cell of a slot and kind
 abbrev pub place : ℕ → ℕ → ℕ
 place slot kind = KINDS * slot + (kind - 1)
-
--- x more at place i
-abbrev pub more : ℕ → ℕ → List ℤ → List ℤ
-more i x xs = set xs i (atZ xs i +ℤ pos x)
 
 -- no cell is above the limit of all of them
 abbrev pub Limited : List ℤ → Type 0

@@ -1,6 +1,6 @@
 -- What a line writes into a point-day. Assumes nothing. No exported contract leans on it.
 use mathlib.Core.List.{List}
-use mathlib.Core.Bool.{true}
+use mathlib.Core.Bool.{true, false}
 use mathlib.Core.Path.{_≡_}
 use Prim.Native.Nat.{ℕ, _≤_, _<_}
 use lib.IntN.{ℤ}
@@ -8,11 +8,13 @@ use Rattle.numbers.specs.Sums.{pick}
 use Rattle.point_day.specs.Limits.{CELLS, LIMIT}
 use Rattle.point_day.specs.Fields.{set-consumption, set-losses}
 use Rattle.point_day.specs.Calls.{refused, losses-added, line}
-use Rattle.point_day.specs.Struct.{taken, Outcome, outcome, called}
+use Rattle.point_day.specs.Day.{all-offtake}
+use Rattle.point_day.specs.Struct.{Sized, read, taken, Outcome, outcome, called}
 use Rattle.line.specs.declared.LineTest.{LineTest}
 use Rattle.line.specs.declared.LineTest.the-variants.{Refused, Passed}
 use Rattle.point_day.specs.declared.PointDay.{PointDay}
-use Rattle.line.specs.Cell.{line-losses, past-limit, place, more}
+use Rattle.line.specs.Cell.{line-losses, past-limit, place}
+use Rattle.state.specs.Places.{more}
 
 -- other consumption and losses
 abbrev pub with-cells : List ℤ → List ℤ → PointDay → PointDay
@@ -37,3 +39,12 @@ pub record Lines (n kind c k : ℕ) (d : PointDay) (i x : ℕ) : Type 0 where
 abbrev pub Tested : ℕ → ℕ → ℕ → ℕ → PointDay → LineTest → Type 0
 Tested n kind c k d (Refused r) = outcome (refused r) d ≡ called (line n kind c k) d
 Tested n kind c k d (Passed i x) = Lines n kind c k d i x
+
+-- a taken point-day that is entering, with these users, of which `count` have joined, and with so much consumption and losses in all
+pub record Stands (us : List ℕ) (count offtake : ℕ) (d : PointDay) : Type 0 where
+  pub sized : Sized d
+  pub is-taken : taken d ≡ true
+  pub entering : d .allotted ≡ false
+  pub users : d .users ≡ us
+  pub joined : d .count ≡ count
+  pub sum : offtake ≡ all-offtake (read d .users)

@@ -1,12 +1,11 @@
 // A line at its cell: its ranges, the losses it adds, and the limit on consumption and losses.
 ghost use mathlib.Core.Path.{_≡_};
 ghost use Prim.Native.Nat.{_≤_, _<_};
-ghost use lib.ListN.{length};
-ghost use Rattle.numbers.specs.Sums.{pick, atZ};
-ghost use Rattle.numbers.specs.Amounts.{Within};
+ghost use Rattle.numbers.specs.Sums.{pick};
 ghost use Rattle.point_day.specs.Limits.{USERS, KINDS, CELLS, LIMIT, COEFFICIENT};
 ghost use Rattle.point_day.specs.Calls.{line-right};
-ghost use Rattle.line.specs.Cell.{line-losses, past-limit, line-on, place, more, Limited};
+ghost use Rattle.line.specs.Cell.{line-losses, past-limit, line-on, place, Limited};
+ghost use Rattle.state.specs.Places.{more};
 use point_day::CELLS;
 use point_day::COEFFICIENT;
 use point_day::KINDS;
@@ -47,14 +46,6 @@ pub fn line_losses(consumption: u64, coefficient: u64) -> u64
     numbers::nearest(consumption * coefficient, PARTS)
 }
 
-// x more at a place: of an array of cells, or of a longer list.
-pub fn add_at(cells: &mut [i64], i: usize, x: u64)
-    requires { ⌜ (i < length (now cells)) × (x ≤ LIMIT) × Within LIMIT (atZ (now cells) i) ⌝ }
-    ensures { λ _. ⌜ now (cells .exit) ≡ more i x (now (cells .entry)) ⌝ }
-{
-    cells[i] = cells[i] + x as i64;
-}
-
 // A line at the cell of a slot and kind, on lent arrays; `offtake` is all their consumption and losses so far.
 pub fn line_cell(
     consumption: &mut [i64; CELLS],
@@ -76,7 +67,7 @@ pub fn line_cell(
         return CellLine::Refused(numbers::ABOVE_LIMIT);
     }
     let i = KINDS * slot + (kind as usize - 1);
-    add_at(consumption, i, amount);
-    add_at(losses, i, added);
+    state::add_at(consumption, i, amount);
+    state::add_at(losses, i, added);
     CellLine::Added(added)
 }

@@ -2,25 +2,26 @@
 pub mod cells;
 
 ghost use mathlib.Core.Path.{_≡_};
-ghost use Prim.Native.Nat.{_≤_, _<_};
+ghost use mathlib.Core.Bool.{true};
+ghost use mathlib.Core.List.{List};
+ghost use Prim.Native.Nat.{ℕ, _≤_, _<_};
 ghost use lib.ListN.{length};
 ghost use Rattle.numbers.specs.Sums.{atZ};
 ghost use Rattle.numbers.specs.Amounts.{Within};
 ghost use Rattle.point_day.specs.Limits.{USERS, CELLS, LIMIT};
-ghost use Rattle.point_day.specs.Calls.{refused, line};
+ghost use Rattle.point_day.specs.Calls.{line};
 ghost use Rattle.point_day.specs.Answers.{answer-of};
-ghost use Rattle.point_day.specs.Struct.{outcome, called};
-ghost use Rattle.point_day.specs.declared.Stage.{Stage};
-ghost use Rattle.state.specs.Places.{Lengths};
-ghost use Rattle.point_day.specs.Fields.{point-day};
-ghost use Rattle.line.specs.Cell.{more};
-ghost use Rattle.line.specs.Lined.{with-cells, Tested};
+ghost use Rattle.point_day.specs.Struct.{sum-right, outcome, called};
+ghost use Rattle.point_day.specs.declared.PointDay.{PointDay};
+ghost use Rattle.state.specs.Places.{Placed, more};
+ghost use Rattle.taken.specs.Tested.{StateOf};
+ghost use Rattle.line.specs.Lined.{with-cells, Tested, Stands};
 use point_day::Answer;
 use point_day::KINDS;
 use point_day::LIMIT;
-use point_day::Measurement;
 use point_day::Outcome;
 use point_day::PointDay;
+use taken::StateTest;
 
 // What the tests of a line find: a refusal, or the place of its cell and the losses that it adds.
 pub enum LineTest {
@@ -28,54 +29,64 @@ pub enum LineTest {
     Passed(usize, u64),
 }
 
-// The tests of a line, on the parts of a point-day at any stage. An entering point-day has whole amounts of consumption and losses alone.
-pub fn line_test<'a>(
-    allotted: bool,
-    measurement: Measurement,
+// The tests of a line on a taken point-day that is entering, of whose `count` users this one stands at `slot`, or at `count` if it has not
+// joined; `offtake` is all consumption and losses.
+pub fn slot_test(
+    slot: usize,
     count: usize,
-    users: &'a [u16],
-    consumption: &'a [i64],
-    losses: &'a [i64],
-    balance: &'a [i64],
-    revision: &'a [i64],
+    offtake: u64,
     user: u16,
     kind: u8,
     amount: u64,
     coefficient: u64,
 ) -> LineTest
-    requires { ⌜ (length (now users) ≡ USERS) × Lengths (now consumption) (now losses) (now balance) (now revision) ⌝ }
-    ensures { λ r. ⌜ ((stage : Stage) → Tested user kind amount coefficient (point-day stage allotted measurement count (now (users .entry)) (now (consumption .entry)) (now (losses .entry)) (now (balance .entry)) (now (revision .entry))) r) ⌝ }
+    requires { ⌜ (slot ≤ count) × (count ≤ USERS) × (offtake ≤ LIMIT) ⌝ }
+    ensures { λ r. ⌜ ((us : List ℕ) (d : PointDay) → Stands us count offtake d → Placed user count us slot → Tested user kind amount coefficient d r) ⌝ }
 {
-    let mut wholes = point_day::no_amounts();
-    let state = taken::test_state(
-        allotted,
-        measurement,
-        count,
-        users,
-        consumption,
-        losses,
-        balance,
-        revision,
-        &mut wholes,
-    );
+    if !cells::line_right(user, kind, amount, coefficient) {
+        return LineTest::Refused(numbers::OUT_OF_RANGE);
+    }
+    if slot == count {
+        return LineTest::Refused(numbers::NOT_JOINED);
+    }
+    let added = cells::line_losses(amount, coefficient);
+    if LIMIT < offtake + (amount + added) {
+        return LineTest::Refused(numbers::ABOVE_LIMIT);
+    }
+    LineTest::Passed(KINDS * slot + (kind as usize - 1), added)
+}
+
+// The tests of a line on a point-day with these parts, of which `state` is the test. An entering point-day has whole amounts of consumption
+// and losses alone.
+pub fn line_test(
+    state: StateTest,
+    allotted: bool,
+    count: usize,
+    users: &[u16],
+    user: u16,
+    kind: u8,
+    amount: u64,
+    coefficient: u64,
+) -> LineTest
+    requires { ⌜ (state .taken ≡ true → (count ≤ USERS) × (count ≤ length (now users)) × (sum-right (state .sum) ≡ true)) ⌝ }
+    ensures { λ r. ⌜ ((d : PointDay) → StateOf d state → d .allotted ≡ allotted → d .count ≡ count → d .users ≡ now (users .entry) → Tested user kind amount coefficient d r) ⌝ }
+{
     if !state.taken {
         return LineTest::Refused(numbers::OUT_OF_RANGE);
     }
     if allotted {
         return LineTest::Refused(numbers::WRONG_STAGE);
     }
-    if !cells::line_right(user, kind, amount, coefficient) {
-        return LineTest::Refused(numbers::OUT_OF_RANGE);
-    }
     let slot = state::slot_of(users, count, user);
-    if slot == count {
-        return LineTest::Refused(numbers::NOT_JOINED);
-    }
-    let added = cells::line_losses(amount, coefficient);
-    if LIMIT < state.sum as u64 + (amount + added) {
-        return LineTest::Refused(numbers::ABOVE_LIMIT);
-    }
-    LineTest::Passed(KINDS * slot + (kind as usize - 1), added)
+    slot_test(
+        slot,
+        count,
+        state.sum as u64,
+        user,
+        kind,
+        amount,
+        coefficient,
+    )
 }
 
 // A line at the place of its cell.
@@ -85,8 +96,8 @@ fn line_at(day: PointDay, place: usize, amount: u64, added: u64) -> Outcome
 {
     let mut consumption = day.consumption;
     let mut losses = day.losses;
-    cells::add_at(&mut consumption, place, amount);
-    cells::add_at(&mut losses, place, added);
+    state::add_at(&mut consumption, place, amount);
+    state::add_at(&mut losses, place, added);
     let next = PointDay {
         consumption: consumption,
         losses: losses,
@@ -102,15 +113,13 @@ fn line_at(day: PointDay, place: usize, amount: u64, added: u64) -> Outcome
 pub fn line(day: PointDay, user: u16, kind: u8, consumption: u64, coefficient: u64) -> Outcome
     ensures { λ r. ⌜ outcome (answer-of (r .answer)) (r .day) ≡ called (line user kind consumption coefficient) day ⌝ }
 {
+    let mut wholes = point_day::no_amounts();
+    let state = taken::test_day(day, &mut wholes);
     let test = line_test(
+        state,
         day.allotted,
-        day.measurement,
         day.count,
         &day.users,
-        &day.consumption,
-        &day.losses,
-        &day.balance,
-        &day.revision,
         user,
         kind,
         consumption,

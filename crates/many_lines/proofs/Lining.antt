@@ -1,8 +1,8 @@
 -- Line after line on a point-day in plain numbers. Assumes nothing.
 use mathlib.Core.Path.{_≡_, refl, sym, ap, ap₂, _∙_}
-use mathlib.Core.Bool.{Bool, true, false, not}
+use mathlib.Core.Bool.{true, false, not}
 use mathlib.Core.List.{List, [], _∷_, _++_, map, append-assoc, append-nil}
-use Prim.Native.Nat.{ℕ, zero, suc, _+_, _-_, _*_, _≤_, _<_}
+use Prim.Native.Nat.{ℕ, zero, suc, _+_, _-_, _≤_, _<_}
 use native.Mathlib.Omega.{arith}
 use lib.IntN.{ℤ, pos, negsuc, natAbs, _+ℤ_}
 use lib.ListN.{length, getD, set, length-set, length-map, List·getD-map}
@@ -27,18 +27,18 @@ use Rattle.point_day.proofs.Padding.{map-set}
 use Rattle.state.proofs.Cells.{low-from}
 use Rattle.state.proofs.Totals.{offtake-is}
 use Rattle.taken.proofs.Facts.{Facts, facts, sum-kept, entering-sum}
-use Rattle.line.specs.Cell.{more}
-use Rattle.line.specs.Lined.{with-cells, Lines}
+use Rattle.state.specs.Places.{more}
+use Rattle.line.specs.Lined.{with-cells, Lines, Stands}
 use Rattle.line.proofs.Lining.{line-1}
 use Rattle.day_book.specs.Run.{line}
 use Rattle.file_lines.proofs.Taking.{outcome-taken}
 use Rattle.file_lines.proofs.Leading.{table-rest, table-next}
 use Rattle.plain_day.specs.Layout.{CONSUMPTION-AT, LOSSES-AT, is-readable, allotted-in, count-in, users-in, day-in, stored}
-use Rattle.plain_day.specs.Lines.{Line, Entered, entered, one-more, line-in, lines-in, line-calls, same-lengths, plain-lines}
+use Rattle.plain_day.specs.Lines.{Line, Entered, entered, one-more, line-in, lines-in, line-calls, same-lengths, is-taken, plain-lines}
 use Rattle.plain_day.specs.Plain.{plain}
 use Rattle.plain_day.proofs.Again.{again, day-sized}
 use Rattle.plain_day.proofs.Stores as store
-use Rattle.many_lines.specs.Many.{Stands, in-numbers}
+use Rattle.many_lines.specs.Many.{in-numbers}
 
 -- ---- a line at its cell
 
@@ -211,10 +211,6 @@ module _ (f : ℕ → Line) (xs : List ℤ) (us : List ℕ) (count : ℕ) where
 -- ---- many lines
 
 module _ (xs : List ℤ) (e : is-readable xs ≡ true) where
-  pub slots-long : length (users-in xs) ≡ USERS
-  unfolding day-in
-  slots-long = day-sized xs e .users
-
   module _ (t : taken (day-in xs) ≡ true) (a : allotted-in xs ≡ false) where
     entering-in : day-in xs .allotted ≡ false
     unfolding day-in
@@ -243,15 +239,11 @@ module _ (ns ks cs ps : List ℕ) (xs : List ℤ) where
   unequal e = rw e refl
 
   module _ (s : same-lengths ns ks cs ps ≡ true) where
-    pub unreadable : is-readable xs ≡ false → plain 2 (pos 0 ∷ pos 0 ∷ []) xs ≡ plain-lines ns ks cs ps xs
+    pub no-day : is-taken xs ≡ false → plain 2 (pos 0 ∷ pos 0 ∷ []) xs ≡ plain-lines ns ks cs ps xs
     unfolding plain-lines
-    unreadable e = rw (s, e) refl
+    no-day t = rw (s, t) refl
 
     module _ (e : is-readable xs ≡ true) where
-      pub untaken : taken (day-in xs) ≡ false → plain 2 (pos 0 ∷ pos 0 ∷ []) xs ≡ plain-lines ns ks cs ps xs
-      unfolding plain-lines
-      untaken t = rw (s, e, t) refl
-
       module _ (t : taken (day-in xs) ≡ true) where
         pub lines-done : in-numbers (line-calls (lines-in ns ks cs ps) (day-in xs)) xs ≡ plain-lines ns ks cs ps xs
         unfolding plain-lines

@@ -23,8 +23,9 @@ use Rattle.point_day.specs.declared.PointDay.{PointDay}
 use Rattle.point_day.proofs.Taken.{taken-facts}
 use Rattle.point_day.proofs.Called.{called-untaken}
 use Rattle.state.specs.Places.{Placed}
-use Rattle.line.specs.Cell.{line-losses, place, more}
-use Rattle.line.specs.Lined.{with-cells, Lines}
+use Rattle.line.specs.Cell.{line-losses, place}
+use Rattle.state.specs.Places.{more}
+use Rattle.line.specs.Lined.{with-cells, Lines, Stands}
 use Rattle.line.proofs.Lining.{line-1, line-2, line-3, line-6, line-passed}
 use Rattle.file_lines.proofs.Leading.{table-rest}
 use Rattle.plain_day.specs.Layout.{EMISSION-AT, DOWNSTREAM-AT, USERS-AT, part, up-to, emissions-readable, head-readable, is-readable, allotted-in, count-in, users-in, day-in, stored}
@@ -33,9 +34,8 @@ use Rattle.plain_day.specs.Plain.{plain, given, plain-call}
 use Rattle.plain_day.proofs.Ranges.{up-to-le, laid-users}
 use Rattle.plain_day.proofs.Again.{again, head-laid, day-sized}
 use Rattle.plain_day.proofs.ReadBack.{Stores, call-stored, stored-twice}
-use Rattle.many_lines.specs.Many.{Stands}
 use Rattle.many_lines.specs.OneByOne.{Made, made, one-before, line-call, one-by-one, answered, Lines-one-by-one}
-use Rattle.many_lines.proofs.Lining.{stands-after, stop, go-on, at-start, lines-done, unreadable, untaken}
+use Rattle.many_lines.proofs.Lining.{stands-after, stop, go-on, at-start, lines-done, no-day}
 
 -- ---- a line on a point-day that is entering: refused by a number, or added
 
@@ -196,8 +196,8 @@ module _ (ns ks cs ps : List ℕ) (xs : List ℤ) (s : same-lengths ns ks cs ps 
 
   by-tests : (a b : Bool) → is-readable xs ≡ a → taken (day-in xs) ≡ b → 1 ≤ length ns → plain-lines ns ks cs ps xs ≡ answered (one-by-one ls xs)
   by-tests true true e t m = when-taken e t
-  by-tests true false e t m = sym (untaken ns ks cs ps xs s e t) ∙ first-2 m (λ l. read-call xs e l (called-untaken _ (day-in xs) t))
-  by-tests false b e t m = sym (unreadable ns ks cs ps xs s e) ∙ first-2 m (λ l. unfold plain-call in rw e refl)
+  by-tests true false e t m = sym (no-day ns ks cs ps xs s (rw (e, t))) ∙ first-2 m (λ l. read-call xs e l (called-untaken _ (day-in xs) t))
+  by-tests false b e t m = sym (no-day ns ks cs ps xs s (rw e)) ∙ first-2 m (λ l. unfold plain-call in rw e refl)
 
 pub lines-one-by-one : Lines-one-by-one
 lines-one-by-one ns ks cs ps xs s = record {

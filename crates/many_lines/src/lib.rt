@@ -8,29 +8,17 @@ ghost use lib.Dec.{eqb};
 ghost use lib.IntN.{pos};
 ghost use lib.ListN.{length};
 ghost use Rattle.numbers.specs.Sums.{pick};
-ghost use Rattle.point_day.specs.Limits.{USERS, LIMIT};
-ghost use Rattle.point_day.specs.Day.{all-whole};
-ghost use Rattle.point_day.specs.Struct.{read, taken};
-ghost use Rattle.point_day.specs.declared.PointDay.{PointDay};
+ghost use Rattle.point_day.specs.Limits.{USERS};
 ghost use Rattle.state.specs.Places.{Placed};
-ghost use Rattle.line.specs.Lined.{Tested};
-ghost use Rattle.plain_day.specs.Layout.{LENGTH, is-readable, users-in, day-in};
+ghost use Rattle.line.specs.Lined.{Stands};
+ghost use Rattle.plain_day.specs.Layout.{is-readable, day-in};
 ghost use Rattle.plain_day.specs.Plain.{plain};
 ghost use Rattle.plain_day.specs.Lines.{lines-in, line-calls, same-lengths, plain-lines};
-ghost use Rattle.many_lines.specs.Many.{HINTS, Stands, in-numbers};
+ghost use Rattle.many_lines.specs.Many.{HINTS, in-numbers};
 use line::LineTest;
-use line::cells;
 use numbers::OUT_OF_RANGE;
-use plain_day::BALANCE_AT;
-use plain_day::CONSUMPTION_AT;
-use plain_day::LENGTH;
-use plain_day::LOSSES_AT;
-use plain_day::REVISION_AT;
-use plain_day::USERS_AT;
 use plain_day::from_numbers;
-use point_day::KINDS;
-use point_day::LIMIT;
-use taken::StateTest;
+use plain_day::writes;
 
 // ---- A user's slot
 
@@ -70,36 +58,6 @@ fn slot_near<'a>(hints: &'a [u8], slots: &'a [u16], count: usize, user: u16) -> 
         }
     }
     state::slot_of(slots, count, user)
-}
-
-// ---- One line
-
-// The tests of a line on a taken point-day that is entering, whose consumption and losses sum to `offtake`.
-fn line_test<'a>(
-    hints: &'a [u8],
-    slots: &'a [u16],
-    count: usize,
-    offtake: u64,
-    user: u16,
-    kind: u8,
-    consumption: u64,
-    coefficient: u64,
-) -> LineTest
-    requires { ⌜ (length (now hints) ≡ HINTS) × (count ≤ length (now slots)) × (count ≤ USERS) × (offtake ≤ LIMIT) ⌝ }
-    ensures { λ r. ⌜ ((d : PointDay) → Stands (now (slots .entry)) count offtake d → Tested user kind consumption coefficient d r) ⌝ }
-{
-    if !cells::line_right(user, kind, consumption, coefficient) {
-        return LineTest::Refused(OUT_OF_RANGE);
-    }
-    let slot = slot_near(hints, slots, count, user);
-    if slot == count {
-        return LineTest::Refused(numbers::NOT_JOINED);
-    }
-    let added = cells::line_losses(consumption, coefficient);
-    if LIMIT < offtake + (consumption + added) {
-        return LineTest::Refused(numbers::ABOVE_LIMIT);
-    }
-    LineTest::Passed(KINDS * slot + (kind as usize - 1), added)
 }
 
 // ---- Line after line
@@ -142,9 +100,9 @@ fn enter_lines<'a>(
     let mut i = 0;
     while i < users.len() {
         let amount = consumptions[i];
-        let test = line_test(
-            &hints,
-            slots,
+        let slot = slot_near(&hints, slots, count, users[i]);
+        let test = line::slot_test(
+            slot,
             count,
             sum,
             users[i],
@@ -157,8 +115,7 @@ fn enter_lines<'a>(
                 return entered(number, i, losses);
             }
             LineTest::Passed(place, added) => {
-                cells::add_at(day, CONSUMPTION_AT + place, amount);
-                cells::add_at(day, LOSSES_AT + place, added);
+                writes::add(day, place, amount, added);
                 sum = sum + (amount + added);
                 losses = losses + added;
             }
@@ -185,26 +142,6 @@ fn same_lengths<'a>(
         return false;
     }
     users.len() == coefficients.len()
-}
-
-// The test of a point-day with these users.
-fn state_test<'a>(day: &'a [i64], slots: &'a [u16]) -> StateTest
-    requires { ⌜ (length (now day) ≡ LENGTH) × (length (now slots) ≡ USERS) × (now slots ≡ users-in (now day)) ⌝ }
-    ensures { λ r. ⌜ r .taken ≡ taken (day-in (now (day .entry))) ⌝ }
-    ensures { λ r. ⌜ (r .taken ≡ true → r .sum ≡ all-whole (read (day-in (now (day .entry))) .users)) ⌝ }
-{
-    let mut wholes = point_day::no_amounts();
-    taken::test_state(
-        from_numbers::allotted_in(day),
-        from_numbers::measurement_in(day),
-        from_numbers::count_in(day),
-        slots,
-        &day[CONSUMPTION_AT..LOSSES_AT],
-        &day[LOSSES_AT..BALANCE_AT],
-        &day[BALANCE_AT..REVISION_AT],
-        &day[REVISION_AT..LENGTH],
-        &mut wholes,
-    )
 }
 
 // The lines on a point-day that is not entering: the first is refused.
@@ -234,11 +171,9 @@ pub fn lines<'a>(
     if !same_lengths(users, kinds, consumptions, coefficients) {
         return OUT_OF_RANGE;
     }
-    if !plain_day::is_readable(day) {
-        return OUT_OF_RANGE;
-    }
-    let slots = from_numbers::users_in(&day[USERS_AT..CONSUMPTION_AT]);
-    let state = state_test(day, &slots);
+    let mut slots = point_day::no_users();
+    let mut wholes = point_day::no_amounts();
+    let state = plain_day::test_numbers(day, &mut slots, &mut wholes);
     if !state.taken {
         return OUT_OF_RANGE;
     }

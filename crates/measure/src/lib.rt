@@ -1,16 +1,15 @@
 // Measure: the emission and the downstream emission of the day.
 ghost use mathlib.Core.Path.{_≡_};
 ghost use mathlib.Core.Bool.{not};
-ghost use lib.ListN.{length};
 ghost use Rattle.numbers.specs.Lists.{both};
-ghost use Rattle.point_day.specs.Limits.{USERS};
 ghost use Rattle.point_day.specs.Day.{provisional};
 ghost use Rattle.point_day.specs.Calls.{measure};
 ghost use Rattle.point_day.specs.Answers.{answer-of};
 ghost use Rattle.point_day.specs.Struct.{outcome, called};
 ghost use Rattle.point_day.specs.declared.Measurement.the-variants.{Measured};
-ghost use Rattle.point_day.specs.Fields.{point-day, set-measurement};
-ghost use Rattle.state.specs.Places.{Lengths};
+ghost use Rattle.point_day.specs.declared.PointDay.{PointDay};
+ghost use Rattle.point_day.specs.Fields.{set-measurement};
+ghost use Rattle.taken.specs.Tested.{IsTaken};
 ghost use Rattle.measure.specs.Measuring.{Tested};
 use point_day::Answer;
 use point_day::Measurement;
@@ -28,33 +27,17 @@ fn measured_for_good(allotted: bool, stage: Stage) -> bool
     false
 }
 
-// The tests of a measure, on the parts of a point-day: 0, or the number of the refusal.
-pub fn measure_test<'a>(
+// The tests of a measure on a point-day with these parts, taken or not: 0, or the number of the refusal.
+pub fn measure_test(
+    is_taken: bool,
     stage: Stage,
     allotted: bool,
-    measurement: Measurement,
-    n: usize,
-    users: &'a [u16],
-    consumption: &'a [i64],
-    losses: &'a [i64],
-    balance: &'a [i64],
-    revision: &'a [i64],
     emission: u64,
     downstream: u64,
 ) -> u8
-    requires { ⌜ (length (now users) ≡ USERS) × Lengths (now consumption) (now losses) (now balance) (now revision) ⌝ }
-    ensures { λ r. ⌜ Tested emission downstream (point-day stage allotted measurement n (now (users .entry)) (now (consumption .entry)) (now (losses .entry)) (now (balance .entry)) (now (revision .entry))) r ⌝ }
+    ensures { λ r. ⌜ ((d : PointDay) → IsTaken d «is_taken» → d .stage ≡ stage → d .allotted ≡ allotted → Tested emission downstream d r) ⌝ }
 {
-    if !taken::is_taken(
-        allotted,
-        measurement,
-        n,
-        users,
-        consumption,
-        losses,
-        balance,
-        revision,
-    ) {
+    if !is_taken {
         return numbers::OUT_OF_RANGE;
     }
     if measured_for_good(allotted, stage) {
@@ -79,19 +62,9 @@ fn remeasure(day: PointDay, emission: u64, downstream: u64) -> PointDay
 pub fn measure(day: PointDay, emission: u64, downstream: u64) -> Outcome
     ensures { λ r. ⌜ outcome (answer-of (r .answer)) (r .day) ≡ called (measure emission downstream) day ⌝ }
 {
-    let number = measure_test(
-        day.stage,
-        day.allotted,
-        day.measurement,
-        day.count,
-        &day.users,
-        &day.consumption,
-        &day.losses,
-        &day.balance,
-        &day.revision,
-        emission,
-        downstream,
-    );
+    let stage = day.stage;
+    let is_taken = taken::is_taken(day);
+    let number = measure_test(is_taken, stage, day.allotted, emission, downstream);
     if number != 0 {
         return point_day::refuse(number, day);
     }

@@ -16,7 +16,7 @@ use mir.Facts.{toZ-ofZ}
 use Rattle.numbers.specs.Sums.{sumZ, total, totalZ}
 use Rattle.numbers.specs.Amounts.{SAFE, Within, is-negative, signed}
 use Rattle.numbers.proofs.Sums.{cases, sumZ-more}
-use Rattle.numbers.proofs.Lists.{All, true≢false}
+use Rattle.numbers.proofs.Lists.{All}
 
 -- ---- sizes
 
@@ -187,17 +187,13 @@ size-sub a b m h k =
 
 -- amounts that are not negative
 
-pub pos-is : (z : ℤ) → is-negative z ≡ false → z ≡ pos (natAbs z)
-pos-is (pos n) e = refl
-pos-is (negsuc n) e = true≢false e
-
 abbrev pub NonNeg : ℤ → Type 0
 NonNeg z = is-negative z ≡ false
 
 pub sum-nonneg : (zs : List ℤ) → All NonNeg zs → totalZ zs ≡ pos (total (map natAbs zs))
 unfolding totalZ total
 sum-nonneg [] h = refl
-sum-nonneg (z ∷ zs) h = ap₂ _+ℤ_ (pos-is z (h .0)) (sum-nonneg zs (h .1))
+sum-nonneg (z ∷ zs) h = ap₂ _+ℤ_ (pos-size z (h .0)) (sum-nonneg zs (h .1))
 
 -- each is at most their sum
 pub all-le-sum : (zs : List ℤ) → All (λ z. natAbs z ≤ total (map natAbs zs)) zs

@@ -10,7 +10,7 @@ use lib.ListN.{length, take, drop, length-drop, length-map}
 use lib.Seq.{drop-cons, take-add, take-all}
 use borrow.Author.Tests.{leb-true}
 use Rattle.numbers.specs.Sums.{pick, bit, atZ}
-use Rattle.numbers.specs.Lists.{both, every}
+use Rattle.numbers.specs.Lists.{every}
 use Rattle.numbers.proofs.Lists.{true≢false, both-fst, both-snd}
 use Rattle.point_day.specs.Limits.{USERS, CELLS, LIMIT, LAST-NUMBER}
 use Rattle.point_day.specs.Day.{is-measured}

@@ -1,3 +1,4 @@
 pub mod Layout
 pub mod Plain
 pub mod Lines
+pub mod Tested

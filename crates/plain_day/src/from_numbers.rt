@@ -7,7 +7,7 @@ ghost use lib.IntN.{pos, natAbs};
 ghost use lib.ListN.{length};
 ghost use Rattle.numbers.specs.Sums.{atZ};
 ghost use Rattle.numbers.specs.Lists.{every};
-ghost use Rattle.point_day.specs.Limits.{USERS, LAST-NUMBER};
+ghost use Rattle.point_day.specs.Limits.{LAST-NUMBER};
 ghost use Rattle.plain_day.specs.Layout.{LENGTH, up-to, stage-of, measurement-of, stage-in, allotted-in, measurement-in, count-in, stage-number};
 use super::ALLOTTED_AT;
 use super::COUNT_AT;
@@ -17,7 +17,6 @@ use super::MEASURED_AT;
 use super::STAGE_AT;
 use point_day::Measurement;
 use point_day::Stage;
-use point_day::USERS;
 
 fn user_number(x: i64) -> u16
     requires { ⌜ up-to LAST-NUMBER x ≡ true ⌝ }
@@ -26,7 +25,8 @@ fn user_number(x: i64) -> u16
     wire::magnitude(x) as u16
 }
 
-fn put_users(users: &mut [u16], xs: &[i64])
+// User numbers, in 16 bits.
+pub fn copy_users(xs: &[i64], users: &mut [u16])
     requires { ⌜ (length (now users) ≡ length (now xs)) × (every (up-to LAST-NUMBER) (now xs) ≡ true) ⌝ }
     ensures { λ _. ⌜ now (users .exit) ≡ map natAbs (now (xs .entry)) ⌝ }
 {
@@ -35,15 +35,6 @@ fn put_users(users: &mut [u16], xs: &[i64])
         users[i] = user_number(xs[i]);
         i += 1;
     }
-}
-
-pub fn users_in(xs: &[i64]) -> [u16; USERS]
-    requires { ⌜ (length (now xs) ≡ USERS) × (every (up-to LAST-NUMBER) (now xs) ≡ true) ⌝ }
-    ensures { λ r. ⌜ r ≡ map natAbs (now (xs .entry)) ⌝ }
-{
-    let mut users = point_day::no_users();
-    put_users(&mut users, xs);
-    users
 }
 
 pub fn stage_of(number: u64) -> Stage

@@ -1,14 +1,18 @@
-// A point-day in plain numbers: where they stand, and whether a point-day can be read from them.
+// A point-day in plain numbers: where they stand, whether a point-day can be read from them and is taken, and what is written into them.
 pub mod from_numbers;
+pub mod writes;
 
 ghost use mathlib.Core.Path.{_≡_};
-ghost use Prim.Native.Nat.{_+_, _≤_};
 ghost use lib.ListN.{length};
 ghost use Rattle.numbers.specs.Lists.{every};
-ghost use Rattle.plain_day.specs.Layout.{put, up-to, emissions-readable, head-readable, is-readable};
+ghost use Rattle.point_day.specs.Limits.{USERS};
+ghost use Rattle.plain_day.specs.Layout.{LENGTH, up-to, emissions-readable, head-readable, is-readable, users-in, day-in};
+ghost use Rattle.taken.specs.Tested.{TestedState};
+ghost use Rattle.plain_day.specs.Tested.{TestedNumbers};
 use point_day::CELLS;
 use point_day::LIMIT;
 use point_day::USERS;
+use taken::StateTest;
 
 // A point-day in plain numbers, which the caller lends: the stage (0 provisional, 1 final provisional, 2 final definitive), whether it is
 // allotted and measured (0, 1), emission and downstream emission, the count of users, and the arrays.
@@ -116,14 +120,33 @@ pub fn is_readable(xs: &[i64]) -> bool
     all_up_to(&xs[USERS_AT..CONSUMPTION_AT], LAST_NUMBER)
 }
 
-// Numbers put into a buffer from a place on.
-pub fn put(out: &mut [i64], at: usize, xs: &[i64])
-    requires { ⌜ at + length (now xs) ≤ length (now out) ⌝ }
-    ensures { λ _. ⌜ now (out .exit) ≡ put at (now (xs .entry)) (now (out .entry)) ⌝ }
+// The test of the point-day that is read from plain numbers, with its user numbers.
+fn test_read<'a>(day: &'a [i64], users: &'a [u16], wholes: &mut [i64]) -> StateTest
+    requires { ⌜ (length (now day) ≡ LENGTH) × (length (now users) ≡ USERS) × (now users ≡ users-in (now day)) × (length (now wholes) ≡ USERS) ⌝ }
+    ensures { λ r. ⌜ TestedState (day-in (now (day .entry))) (now (wholes .entry)) r (now (wholes .exit)) ⌝ }
 {
-    let mut i = 0;
-    while i < xs.len() {
-        out[at + i] = xs[i];
-        i += 1;
+    taken::test_state(
+        from_numbers::allotted_in(day),
+        from_numbers::measurement_in(day),
+        from_numbers::count_in(day),
+        users,
+        &day[CONSUMPTION_AT..LOSSES_AT],
+        &day[LOSSES_AT..BALANCE_AT],
+        &day[BALANCE_AT..REVISION_AT],
+        &day[REVISION_AT..LENGTH],
+        wholes,
+    )
+}
+
+// The test of a point-day in plain numbers: whether one is read from them and is taken, and if so the sum of its whole amounts. `users` has
+// then its user numbers, and `wholes` starts with its whole amounts.
+pub fn test_numbers(day: &[i64], users: &mut [u16], wholes: &mut [i64]) -> StateTest
+    requires { ⌜ (length (now users) ≡ USERS) × (length (now wholes) ≡ USERS) ⌝ }
+    ensures { λ r. ⌜ TestedNumbers (now (day .entry)) (now (wholes .entry)) r (now (users .exit)) (now (wholes .exit)) ⌝ }
+{
+    if !is_readable(day) {
+        return taken::untaken();
     }
+    from_numbers::copy_users(&day[USERS_AT..CONSUMPTION_AT], users);
+    test_read(day, users, wholes)
 }

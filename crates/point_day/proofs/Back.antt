@@ -19,7 +19,7 @@ use Rattle.point_day.specs.Day.{User, is-zero, numbers}
 use Rattle.point_day.specs.Struct.{Sized, kinds-of, user-at, read, padded, laid, none-past, none-below}
 use Rattle.point_day.specs.declared.PointDay.{PointDay}
 use Rattle.numbers.proofs.Lists.{All, all-table, both-fst, both-snd, map-append}
-use Rattle.numbers.proofs.Amounts.{pos-is}
+use Rattle.numbers.proofs.Amounts.{pos-size}
 use Rattle.point_day.proofs.Taken.{Taken}
 use Rattle.point_day.proofs.Arrays.{Full}
 
@@ -80,7 +80,7 @@ every-drop p (suc n) (x ∷ xs) e = every-drop p n xs (both-snd (p x) _ e)
 pub signs-back : (zs : List ℤ) → every (λ z. not (is-negative z)) zs ≡ true → map pos (map natAbs zs) ≡ zs
 unfolding every
 signs-back [] e = refl
-signs-back (z ∷ zs) e = ap₂ _∷_ (sym (pos-is z (not-true (is-negative z) (both-fst (not (is-negative z)) _ e)))) (signs-back zs (both-snd (not (is-negative z)) _ e))
+signs-back (z ∷ zs) e = ap₂ _∷_ (sym (pos-size z (not-true (is-negative z) (both-fst (not (is-negative z)) _ e)))) (signs-back zs (both-snd (not (is-negative z)) _ e))
 
 table-same : {A : Type 0} (f g : ℕ → A) → ((i : ℕ) → f i ≡ g i) → (n : ℕ) → table f n ≡ table g n
 unfolding table

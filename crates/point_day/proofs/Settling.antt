@@ -12,7 +12,7 @@ use Rattle.numbers.specs.Sums.{totalZ}
 use Rattle.numbers.specs.Lists.{both, every, distinct, rising}
 use Rattle.numbers.specs.Amounts.{is-negative}
 use Rattle.numbers.proofs.Lists.{All, never, both-fst, both-snd, every-all, all-map, all-map₂, all-zip, zip-length, map-zip, map-map, rising-distinct}
-use Rattle.numbers.proofs.Amounts.{NonNeg, pos-is, size-sub, within-sub}
+use Rattle.numbers.proofs.Amounts.{NonNeg, pos-size, size-sub, within-sub}
 use Rattle.proration.specs.Proration.{prorateZ}
 use Rattle.proration.proofs.Signs.{lengthZ}
 use Rattle.point_day.specs.Limits.{USERS, LAST-NUMBER, LIMIT, AMOUNT, ROWS}
@@ -192,7 +192,7 @@ rest a b r =
 revision-small : (u : User) → NonNeg (whole u) → natAbs (whole u) ≤ LIMIT → offtake u ≤ LIMIT → natAbs (totalZ (u .balance)) ≤ LIMIT → Revised u
 revision-small u e w t b =
     let first : natAbs (whole u -ℤ pos (offtake u)) ≤ LIMIT =
-    subst⁻¹ (λ z. natAbs (z -ℤ pos (offtake u)) ≤ LIMIT) (pos-is (whole u) e) (size-sub (natAbs (whole u)) (offtake u) LIMIT w t) in
+    subst⁻¹ (λ z. natAbs (z -ℤ pos (offtake u)) ≤ LIMIT) (pos-size (whole u) e) (size-sub (natAbs (whole u)) (offtake u) LIMIT w t) in
     omega (
       arith,
       ap natAbs (rest (pos (offtake u)) (totalZ (u .balance)) (u .revision)),

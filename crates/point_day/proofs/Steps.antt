@@ -2,11 +2,11 @@
 use mathlib.Core.Path.{_≡_, refl, sym, ap, ap₂, _∙_}
 use mathlib.Core.Bool.{Bool, true, false, not}
 use mathlib.Core.List.{List, [], _∷_, _++_, map}
-use Prim.Native.Nat.{ℕ, _+_, _-_, _*_, _≤_}
+use Prim.Native.Nat.{ℕ, _+_, _-_, _≤_}
 use native.Mathlib.Omega.{arith}
 use lib.Dec.{leb, eqb}
 use lib.IntN.{ℤ}
-use lib.ListN.{length, getD, length-append, length-map, length-set}
+use lib.ListN.{getD, length-append, length-map, length-set}
 use borrow.Author.Tests.{leb-true, leb-false, ltb-false, eqb-true, eqb-false, ne-eqb, not-false, not-true}
 use Rattle.numbers.specs.Sums.{pick, total, totalZ}
 use Rattle.numbers.specs.Lists.{both, every, has, distinct}

@@ -1,7 +1,7 @@
 -- The shares sum to the amount, and each is less than one unit from the exact proportion. Assumes nothing.
 use mathlib.Core.Path.{_≡_, sym, ap, _∙_}
 use mathlib.Core.Bool.{Bool, true, false}
-use mathlib.Core.Logic.{⊎-elim, _⊎_, inl}
+use mathlib.Core.Logic.{⊎-elim, inl}
 use mathlib.Core.List.{List}
 use Prim.Native.Nat.{ℕ, _+_, _*_, _/_, _%_, _≤_, _<_}
 use native.Mathlib.Nat.{div-add-mod, mod-lt, mul-comm, mul-add, mul-one, mul-zero, mul-sub, le-of-mul-le-mul-left, le-trans, eq-zero-or-pos}

@@ -9,12 +9,11 @@ ghost use Rattle.numbers.specs.Lists.{both};
 ghost use Rattle.numbers.specs.Amounts.{SAFE};
 ghost use Rattle.point_day.specs.Limits.{USERS, TOLERANCE};
 ghost use Rattle.point_day.specs.Day.{provisional};
-ghost use Rattle.point_day.specs.Fields.{point-day, set-revision};
+ghost use Rattle.point_day.specs.Fields.{set-revision};
 ghost use Rattle.point_day.specs.Calls.{within-tolerance, revision-assigned, revise};
 ghost use Rattle.point_day.specs.Answers.{answer-of};
 ghost use Rattle.point_day.specs.Struct.{outcome, called};
-ghost use Rattle.state.specs.Places.{Lengths};
-ghost use Rattle.revise.specs.Revised.{Tested};
+ghost use Rattle.revise.specs.Revised.{Tested, Rest, with-rest};
 use point_day::Answer;
 use point_day::Measurement;
 use point_day::Outcome;
@@ -22,6 +21,7 @@ use point_day::PointDay;
 use point_day::Stage;
 use point_day::TOLERANCE;
 use point_day::USERS;
+use taken::StateTest;
 
 // What the tests of a revise find: a refusal, or R, within the tolerance or assigned.
 pub enum ReviseTest {
@@ -40,35 +40,22 @@ fn is_revisable(stage: Stage, allotted: bool) -> bool
     false
 }
 
-// The tests of a revise by any tolerance, on the parts of a point-day. `column` has the revisions afterwards, if R is assigned: then no
-// whole amount was negative, and the sum of the weights is their sum.
+// The tests of a revise by any tolerance on a point-day with these parts, of which `state` is the test; `column` starts with its whole
+// amounts. It has the revisions afterwards, if R is assigned: then no whole amount was negative, and the sum of the weights is their sum.
 pub fn revise_test<'a>(
+    state: StateTest,
     stage: Stage,
     allotted: bool,
     measurement: Measurement,
     n: usize,
     users: &'a [u16],
-    consumption: &'a [i64],
-    losses: &'a [i64],
-    balance: &'a [i64],
     revision: &'a [i64],
     tolerance: u64,
     column: &mut [i64],
 ) -> ReviseTest
-    requires { ⌜ (length (now users) ≡ USERS) × Lengths (now consumption) (now losses) (now balance) (now revision) × (length (now column) ≡ USERS) × (tolerance ≤ SAFE) ⌝ }
-    ensures { λ r. ⌜ Tested tolerance (point-day stage allotted measurement n (now (users .entry)) (now (consumption .entry)) (now (losses .entry)) (now (balance .entry)) (now (revision .entry))) r (now (column .exit)) ⌝ }
+    requires { ⌜ Rest stage allotted measurement n (now users) (now revision) state (now column) × (length (now column) ≡ USERS) × (tolerance ≤ SAFE) ⌝ }
+    ensures { λ r. ⌜ ((x : Rest stage allotted measurement n (now (users .entry)) (now (revision .entry)) state (now (column .entry))) → Tested tolerance (with-rest x) r (now (column .exit))) ⌝ }
 {
-    let state = taken::test_state(
-        allotted,
-        measurement,
-        n,
-        users,
-        consumption,
-        losses,
-        balance,
-        revision,
-        column,
-    );
     if !state.taken {
         return ReviseTest::Refused(numbers::OUT_OF_RANGE);
     }
@@ -119,15 +106,16 @@ pub fn revise_by(day: PointDay, tolerance: u64) -> Outcome
     ensures { λ r. ⌜ outcome (answer-of (r .answer)) (r .day) ≡ called (revise tolerance) day ⌝ }
 {
     let mut column = point_day::no_amounts();
+    let stage = day.stage;
+    let measurement = day.measurement;
+    let state = taken::test_day(day, &mut column);
     let test = revise_test(
-        day.stage,
+        state,
+        stage,
         day.allotted,
-        day.measurement,
+        measurement,
         day.count,
         &day.users,
-        &day.consumption,
-        &day.losses,
-        &day.balance,
         &day.revision,
         tolerance,
         &mut column,

@@ -63,8 +63,5 @@ module _ (tolerance : ℕ) (cs us : List ℕ) (zs : List ℤ) (d : PointDay) (z 
               is = settled (rw (t .shares h) q);
               taken = ok;
               nobody = eqb-true (d .count) 0 (both-snd (not (d .allotted)) _ (both-snd (provisional (d .stage)) _ open-day));
-              found = found;
-              few = few;
-              counts-long = lengths .0;
-              users-long = lengths .1;
+              row = record { found = found; few = few; counts-long = lengths .0; users-long = lengths .1 };
             }

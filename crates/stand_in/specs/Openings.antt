@@ -21,6 +21,13 @@ use Rattle.stand_in.specs.Rows.{Nearest}
 abbrev pub row-users : List ℕ → List ℕ → ℕ → List ℕ
 row-users counts users r = take (getD counts r 0) (drop (USERS * r) users)
 
+-- row r stands in these lists of all rows
+pub record RowAt (counts users : List ℕ) (r : ℕ) : Type 0 where
+  pub found : r < ROWS
+  pub few : getD counts r 0 ≤ USERS
+  pub counts-long : length counts ≡ ROWS
+  pub users-long : length users ≡ USERS * ROWS
+
 -- rows in their range, of which the one at place r is used, for a net of n
 pub record Usable (rs : StandInRows) (n r : ℕ) : Type 0 where
   pub right : every row-right (rows-of rs) ≡ true

@@ -4,15 +4,13 @@ pub mod rows;
 
 ghost use mathlib.Core.Path.{_≡_};
 ghost use lib.IntN.{pos};
-ghost use lib.ListN.{length, replicate};
+ghost use lib.ListN.{replicate};
 ghost use Rattle.point_day.specs.Limits.{USERS, TOLERANCE};
 ghost use Rattle.point_day.specs.Calls.{stand-in};
 ghost use Rattle.point_day.specs.Answers.{answer-of};
 ghost use Rattle.point_day.specs.Struct.{rows-of, outcome, called};
-ghost use Rattle.point_day.specs.Fields.{point-day};
-ghost use Rattle.state.specs.Places.{Lengths};
 ghost use Rattle.stand_in.specs.Rows.{rows-in};
-ghost use Rattle.stand_in.specs.StandsIn.{Tested};
+ghost use Rattle.stand_in.specs.StandsIn.{Tested, Rest, with-rest};
 use point_day::Answer;
 use point_day::Measurement;
 use point_day::Outcome;
@@ -21,7 +19,6 @@ use point_day::ROWS;
 use point_day::Stage;
 use point_day::StandInRows;
 use point_day::TOLERANCE;
-use point_day::USERS;
 
 // What the tests of a stand-in find: a refusal, or the place of the row that is used, from 0.
 pub enum StandInTest {
@@ -29,37 +26,24 @@ pub enum StandInTest {
     Passed(usize),
 }
 
-// The tests of a stand-in whose rows stand in three lists, on the parts of a point-day. If they pass, a column of zeros becomes the shares
-// of the row's users.
+// The tests of a stand-in whose rows stand in three lists, on a point-day with these parts, taken or not. If they pass, a column of zeros
+// becomes the shares of the row's users.
 pub fn stand_in_test<'a>(
+    is_taken: bool,
     stage: Stage,
     allotted: bool,
     measurement: Measurement,
     n: usize,
-    users: &'a [u16],
-    consumption: &'a [i64],
-    losses: &'a [i64],
-    balance: &'a [i64],
-    revision: &'a [i64],
     counts: &'a [usize],
     joining: &'a [u16],
     amounts: &'a [i64],
     tolerance: u64,
     shares: &mut [i64],
 ) -> StandInTest
-    requires { ⌜ (length (now users) ≡ USERS) × Lengths (now consumption) (now losses) (now balance) (now revision) × (now shares ≡ replicate USERS (pos 0)) ⌝ }
-    ensures { λ r. ⌜ Tested tolerance (now (counts .entry)) (now (joining .entry)) (now (amounts .entry)) (point-day stage allotted measurement n (now (users .entry)) (now (consumption .entry)) (now (losses .entry)) (now (balance .entry)) (now (revision .entry))) r (now (shares .exit)) ⌝ }
+    requires { ⌜ Rest stage allotted measurement n «is_taken» × (now shares ≡ replicate USERS (pos 0)) ⌝ }
+    ensures { λ r. ⌜ ((x : Rest stage allotted measurement n «is_taken») → Tested tolerance (now (counts .entry)) (now (joining .entry)) (now (amounts .entry)) (with-rest x) r (now (shares .exit))) ⌝ }
 {
-    if !taken::is_taken(
-        allotted,
-        measurement,
-        n,
-        users,
-        consumption,
-        losses,
-        balance,
-        revision,
-    ) {
+    if !is_taken {
         return StandInTest::Refused(numbers::OUT_OF_RANGE);
     }
     if !opening::is_open(stage, allotted, n) {
@@ -98,16 +82,15 @@ pub fn stand_in_lists<'a>(
     ensures { λ r. ⌜ outcome (answer-of (r .answer)) (r .day) ≡ called (stand-in tolerance (rows-of (rows-in (now (counts .entry)) (now (users .entry)) (now (amounts .entry))))) day ⌝ }
 {
     let mut shares = point_day::no_amounts();
+    let stage = day.stage;
+    let measurement = day.measurement;
+    let is_taken = taken::is_taken(day);
     let test = stand_in_test(
-        day.stage,
+        is_taken,
+        stage,
         day.allotted,
-        day.measurement,
+        measurement,
         day.count,
-        &day.users,
-        &day.consumption,
-        &day.losses,
-        &day.balance,
-        &day.revision,
         counts,
         users,
         amounts,
@@ -117,9 +100,7 @@ pub fn stand_in_lists<'a>(
     match test {
         StandInTest::Refused(number) => point_day::refuse(number, day),
         StandInTest::Passed(row) => {
-            let from = USERS * row;
-            let to = from + counts[row];
-            let next = opening::opened(day, &users[from..to], shares);
+            let next = opening::opened(day, rows::row_users(counts, users, row), shares);
             Outcome {
                 answer: Answer::RowsLookedAt(row + 1),
                 day: next,

@@ -1,12 +1,13 @@
 // The rows of a stand-in, one for each of the fifteen days before: whether they are in range, and the nearest with any pair.
 ghost use mathlib.Core.Path.{_≡_};
-ghost use Prim.Native.Nat.{_*_};
+ghost use Prim.Native.Nat.{_*_, _≤_};
 ghost use lib.ListN.{length};
 ghost use Rattle.numbers.specs.Lists.{both, every, rising};
 ghost use Rattle.point_day.specs.Limits.{USERS, ROWS, AMOUNT};
 ghost use Rattle.point_day.specs.Day.{no-more, is-number};
 ghost use Rattle.point_day.specs.Calls.{row-right};
 ghost use Rattle.point_day.specs.Struct.{rows-of};
+ghost use Rattle.stand_in.specs.Openings.{RowAt, row-users};
 ghost use Rattle.stand_in.specs.Rows.{rows, rows-readable, rows-in, Nearest};
 use point_day::PAIRS;
 use point_day::ROWS;
@@ -96,4 +97,14 @@ pub fn nearest_filled(counts: &[usize]) -> usize
         row += 1;
     }
     row
+}
+
+// The user numbers of a row.
+pub fn row_users<'a>(counts: &'a [usize], users: &'a [u16], row: usize) -> &'a [u16]
+    requires { ⌜ RowAt (now counts) (now users) row ⌝ }
+    ensures { λ r. ⌜ (now r ≡ row-users (now (counts .entry)) (now (users .entry)) row) × (length (now r) ≤ USERS) ⌝ }
+{
+    let from = USERS * row;
+    let to = from + counts[row];
+    &users[from..to]
 }

@@ -1,18 +1,15 @@
 // Start-final: the next stage, entering.
 ghost use mathlib.Core.Path.{_≡_};
 ghost use mathlib.Core.Bool.{not};
-ghost use lib.ListN.{length};
 ghost use Rattle.numbers.specs.Lists.{either};
-ghost use Rattle.point_day.specs.Limits.{USERS};
-ghost use Rattle.point_day.specs.Fields.{point-day};
 ghost use Rattle.point_day.specs.Day.{last-stage, next};
 ghost use Rattle.point_day.specs.Calls.{start-final};
 ghost use Rattle.point_day.specs.Answers.{answer-of};
 ghost use Rattle.point_day.specs.Struct.{outcome, called};
-ghost use Rattle.state.specs.Places.{Lengths};
+ghost use Rattle.point_day.specs.declared.PointDay.{PointDay};
+ghost use Rattle.taken.specs.Tested.{IsTaken};
 ghost use Rattle.start_final.specs.Writes.{restarted, Tested};
 use point_day::Answer;
-use point_day::Measurement;
 use point_day::Outcome;
 use point_day::PointDay;
 use point_day::Stage;
@@ -49,31 +46,11 @@ fn cannot_start(allotted: bool, stage: Stage) -> bool
     true
 }
 
-// The tests of a start-final, on the parts of a point-day: 0, or the number of the refusal.
-pub fn start_final_test<'a>(
-    stage: Stage,
-    allotted: bool,
-    measurement: Measurement,
-    n: usize,
-    users: &'a [u16],
-    consumption: &'a [i64],
-    losses: &'a [i64],
-    balance: &'a [i64],
-    revision: &'a [i64],
-) -> u8
-    requires { ⌜ (length (now users) ≡ USERS) × Lengths (now consumption) (now losses) (now balance) (now revision) ⌝ }
-    ensures { λ r. ⌜ Tested (point-day stage allotted measurement n (now (users .entry)) (now (consumption .entry)) (now (losses .entry)) (now (balance .entry)) (now (revision .entry))) r ⌝ }
+// The tests of a start-final on a point-day with these parts, taken or not: 0, or the number of the refusal.
+pub fn start_final_test(is_taken: bool, stage: Stage, allotted: bool) -> u8
+    ensures { λ r. ⌜ ((d : PointDay) → IsTaken d «is_taken» → d .stage ≡ stage → d .allotted ≡ allotted → Tested d r) ⌝ }
 {
-    if !taken::is_taken(
-        allotted,
-        measurement,
-        n,
-        users,
-        consumption,
-        losses,
-        balance,
-        revision,
-    ) {
+    if !is_taken {
         return numbers::OUT_OF_RANGE;
     }
     if cannot_start(allotted, stage) {
@@ -107,17 +84,9 @@ fn restart(day: PointDay) -> PointDay
 pub fn start_final(day: PointDay) -> Outcome
     ensures { λ r. ⌜ outcome (answer-of (r .answer)) (r .day) ≡ called start-final day ⌝ }
 {
-    let number = start_final_test(
-        day.stage,
-        day.allotted,
-        day.measurement,
-        day.count,
-        &day.users,
-        &day.consumption,
-        &day.losses,
-        &day.balance,
-        &day.revision,
-    );
+    let stage = day.stage;
+    let is_taken = taken::is_taken(day);
+    let number = start_final_test(is_taken, stage, day.allotted);
     if number != 0 {
         return point_day::refuse(number, day);
     }

@@ -1,20 +1,22 @@
 -- Amounts place by place, against tests of every element; sums of amounts that are not negative. Assumes nothing.
-use mathlib.Core.Path.{_≡_, refl}
+use mathlib.Core.Path.{_≡_, refl, ap₂}
 use mathlib.Core.Bool.{true, false}
 use mathlib.Core.List.{List}
 use mathlib.Core.Logic.{⊎-elim}
 use Prim.Native.Nat.{ℕ, zero, suc, _≤_, _<_}
 use native.Mathlib.Omega.{arith}
-use lib.IntN.{ℤ, pos, negsuc, negℤ, natAbs}
+use lib.IntN.{ℤ, pos, negsuc, negℤ, natAbs, _+ℤ_}
 use lib.Signed.{ltZ, leZ}
 use lib.ListN.{length, List·getD-eq-default}
+use mir.Syntax.{w64}
+use mir.Val.{ofZ, toZ, SFits}
 use borrow.Author.Tests.{eqb-true, eq-eqb, leb-true, leb-false, ltb-false, le-ltb}
 use Rattle.numbers.specs.Sums.{atZ}
 use Rattle.numbers.specs.Amounts.{Within, Between, Decides, is-negative}
 use Rattle.numbers.proofs.Sums.{lt-or-ge}
 use Rattle.numbers.proofs.Lists.{true≢false}
-use Rattle.numbers.proofs.Amounts.{between}
-use Rattle.point_day.specs.Limits.{AMOUNT}
+use Rattle.numbers.proofs.Amounts.{between, back, sfits, widen, within-add, within-pos}
+use Rattle.point_day.specs.Limits.{LIMIT, AMOUNT}
 use Rattle.point_day.specs.Day.{is-zero}
 use Rattle.state.specs.Places.{From}
 
@@ -65,3 +67,15 @@ at-most m (pos n) e = record {
   no = λ q P. omega (arith, leb-false n m q, ltb-false m n (P .below));
 }
 at-most m (negsuc n) e = true≢false e
+
+-- ---- an amount added at a cell, in 64 bits
+
+module _ (x : ℤ) (n : ℕ) (h : Within LIMIT x) (l : n ≤ LIMIT) where
+  cell-is : toZ w64 (ofZ w64 x) +ℤ toZ w64 n ≡ x +ℤ pos n
+  cell-is = ap₂ _+ℤ_ (back h (omega arith)) (back {m = LIMIT} {z = pos n} (widen (within-pos n) l) (omega arith))
+
+  pub cell-fits : SFits w64 (toZ w64 (ofZ w64 x) +ℤ toZ w64 n)
+  cell-fits = rw cell-is (sfits (within-add h (widen (within-pos n) l)) (omega arith))
+
+  pub cell-back : toZ w64 (ofZ w64 (toZ w64 (ofZ w64 x) +ℤ toZ w64 n)) ≡ x +ℤ pos n
+  cell-back = rw cell-is (back (within-add h (widen (within-pos n) l)) (omega arith))

@@ -4,7 +4,7 @@ use mathlib.Core.List.{List}
 use mathlib.Core.Path.{_≡_}
 use Prim.Native.Nat.{ℕ, _+_, _*_, _≤_, _<_}
 use lib.IntN.{ℤ, pos, natAbs, _+ℤ_}
-use lib.ListN.{length, take, getD}
+use lib.ListN.{length, take, getD, set}
 use Rattle.numbers.specs.Sums.{sumZ, atZ}
 use Rattle.numbers.specs.Lists.{has}
 use Rattle.numbers.specs.Amounts.{Within, Between}
@@ -74,3 +74,7 @@ balance-at bs rs s = sumZ (λ k. atZ bs (KINDS * s + k)) KINDS +ℤ atZ rs s
 -- the whole amount of slot s
 abbrev pub whole-at : List ℤ → List ℤ → List ℤ → List ℤ → ℕ → ℤ
 whole-at cs ls bs rs s = sumZ (λ k. cellZ cs ls bs (KINDS * s + k)) KINDS +ℤ atZ rs s
+
+-- x more at place i
+abbrev pub more : ℕ → ℕ → List ℤ → List ℤ
+more i x xs = set xs i (atZ xs i +ℤ pos x)

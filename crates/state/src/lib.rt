@@ -9,7 +9,7 @@ ghost use Rattle.numbers.specs.Sums.{table, atZ};
 ghost use Rattle.numbers.specs.Amounts.{Within, Decides};
 ghost use Rattle.point_day.specs.Limits.{USERS, CELLS, LIMIT};
 ghost use Rattle.point_day.specs.Day.{is-measured, net-of, emission-right, measurement-right, provisional};
-ghost use Rattle.state.specs.Places.{Placed, ROOM, Small, Lengths, LowSlot, SizedSlot, cellZ, offtake-at, balance-at, whole-at};
+ghost use Rattle.state.specs.Places.{Placed, ROOM, Small, Lengths, LowSlot, SizedSlot, cellZ, offtake-at, balance-at, whole-at, more};
 use point_day::AMOUNT;
 use point_day::KINDS;
 use point_day::LIMIT;
@@ -101,6 +101,14 @@ pub fn user_balance<'a>(balance: &'a [i64], revision: &'a [i64], slot: usize) ->
         k += 1;
     }
     sum + revision[slot]
+}
+
+// x more at a place: of an array of cells, or of a longer list.
+pub fn add_at(cells: &mut [i64], i: usize, x: u64)
+    requires { ⌜ (i < length (now cells)) × (x ≤ LIMIT) × Within LIMIT (atZ (now cells) i) ⌝ }
+    ensures { λ _. ⌜ now (cells .exit) ≡ more i x (now (cells .entry)) ⌝ }
+{
+    cells[i] = cells[i] + x as i64;
 }
 
 // Consumption, losses and balance of a cell.

@@ -15,7 +15,7 @@ use borrow.Author.Tests.{le-leb, leb-true, eqb-true, not-true, not-false}
 use Rattle.numbers.specs.Sums.{sumZ, table, at, atZ, total}
 use Rattle.numbers.specs.Lists.{every, has, distinct}
 use Rattle.numbers.specs.Amounts.{Within, Between, Decides, is-negative}
-use Rattle.numbers.proofs.Amounts.{back}
+use Rattle.numbers.proofs.Amounts.{back, pos-size}
 use Rattle.numbers.proofs.Places.{every-at, at-every, every-from}
 use Rattle.numbers.proofs.Sums.{lt-or-ge, length-table, getD-table, table-take, at-total}
 use Rattle.numbers.proofs.Lists.{true≢false, both-fst, both-snd, both-true, every-all, all-table}
@@ -31,7 +31,8 @@ use Rattle.state.specs.Places.{From, ROOM, Small, Summable, Lengths, whole-at}
 use Rattle.state.proofs.Cells.{zero-between, between-zero, between-sign, low-size, nonneg-between, between-size, size-between, within-from, low-from}
 use Rattle.state.proofs.Totals.{kinds-long, offtake-is, whole-is, wholes-are}
 use Rattle.point_day.specs.Fields.{point-day}
-use Rattle.taken.specs.Tested.{Wholes, any-large}
+use Rattle.taken.specs.Tested.{StateOf, Wholes, any-large}
+use Rattle.taken.specs.declared.StateTest.{StateTest}
 use Rattle.point_day.specs.declared.Stage.{Stage}
 
 -- every amount in low .. high, and 0 from place n on
@@ -258,6 +259,16 @@ pub first-wholes : (f : ℕ → ℤ) (n : ℕ) (before : List ℤ) {xs : List �
 first-wholes f n before e = ap (take n) e ∙ take-at (table f n) (drop n before) n (length-table f n)
 
 -- an entering point-day: the sum of its whole amounts is its consumption and losses
+-- the sum that the test of a taken point-day found
+pub found-sum : (d : PointDay) {r : StateTest} → StateOf d r → r .taken ≡ true → sum-right (r .sum) ≡ true
+found-sum d s y = ap sum-right (s .sum y) ∙ taken-facts d (sym (s .taken .is) ∙ y) .sum
+
+-- a sum in its range, as a number of 64 bits
+pub sum-fits : (z : ℤ) → sum-right z ≡ true → (toZ w64 (ofZ w64 z) ≡ pos (natAbs z)) × (natAbs z ≤ LIMIT)
+sum-fits z e =
+    let l = leb-true (natAbs z) LIMIT (both-snd (not (is-negative z)) _ e) in
+    (back (record { size = l }) (omega arith) ∙ pos-size z (not-true _ (both-fst (not (is-negative z)) _ e)), l)
+
 pub entering-sum : (d : PointDay) → Sized d → taken d ≡ true → d .allotted ≡ false → all-whole (read d .users) ≡ pos (all-offtake (read d .users))
 entering-sum d z t e = bare-all (read d .users) (taken-sound d z (taken-facts d t) .entering (unfold read in e))
 

@@ -354,16 +354,21 @@ module _ (d : PointDay) (z : Sized d) (e : d .allotted ≡ false) where
 -- ---- the whole test
 
 pub state-none : (d : PointDay) → Sized d → {before after : List ℤ} {r : StateTest} → r .taken ≡ false → (Facts d → ⊥) → TestedState d before r after
-state-none d z e h = record { is = e ∙ untaken d (λ q. h (facts d z q)); sum = λ q. true≢false (sym q ∙ e); wholes = λ q. true≢false (sym q ∙ e) }
+state-none d z e h = record {
+  state = record { taken = record { sized = z; is = e ∙ untaken d (λ q. h (facts d z q)) }; sum = λ q. true≢false (sym q ∙ e) };
+  wholes = λ q. true≢false (sym q ∙ e);
+}
 
 pub state-found : (d : PointDay) → Sized d → {P : Type 0} {f : ℕ → ℤ} {before after : List ℤ} {r : StateTest} → Found P f (d .count) before r after → (P → taken d ≡ true) → (taken d ≡ true → P) → (P → (s : ℕ) → s < d .count → f s ≡ wholes-of d s)
     → TestedState d before r after
 state-found d z {P} {f} {before} {after} {r} t g h q = record {
-  is = go (r .taken) refl;
-  sum = λ e.
-      let p = t .decides .yes e in
-      let l = taken-summable d z (g p) in
-      t .sum e ∙ sumZ-eq f (wholes-of d) (d .count) (q p) ∙ sym (wholes-are d z (l .above) (l .above-losses) (l .few));
+  state = record {
+    taken = record { sized = z; is = go (r .taken) refl };
+    sum = λ e.
+        let p = t .decides .yes e in
+        let l = taken-summable d z (g p) in
+        t .sum e ∙ sumZ-eq f (wholes-of d) (d .count) (q p) ∙ sym (wholes-are d z (l .above) (l .above-losses) (l .few));
+  };
   wholes = λ e. t .wholes e ∙ ap (λ x. x ++ drop (d .count) before) (same-table f (wholes-of d) (d .count) (q (t .decides .yes e)));
 }
   where

@@ -11,16 +11,25 @@ use Rattle.numbers.specs.Lists.{every, has, distinct}
 use Rattle.numbers.specs.Amounts.{Between, Decides}
 use Rattle.point_day.specs.Limits.{USERS, KINDS, LIMIT, AMOUNT}
 use Rattle.point_day.specs.Day.{all-whole, is-measured, no-more, measurement-right}
-use Rattle.point_day.specs.Struct.{read, taken}
+use Rattle.point_day.specs.Struct.{Sized, read, taken}
 use Rattle.point_day.specs.declared.Measurement.{Measurement}
 use Rattle.point_day.specs.declared.PointDay.{PointDay}
 use Rattle.state.specs.Places.{From, LowSlot, SizedSlot, offtake-at, balance-at, whole-at}
 use Rattle.taken.specs.declared.StateTest.{StateTest}
 
--- whether the point-day d is taken; if it is, the sum of its whole amounts, and the column that held `before` starts with them
-pub record TestedState (d : PointDay) (before : List ℤ) (r : StateTest) (after : List ℤ) : Type 0 where
-  pub is : r .taken ≡ taken d
+-- r says whether the point-day d is taken
+pub record IsTaken (d : PointDay) (r : Bool) : Type 0 where
+  pub sized : Sized d
+  pub is : r ≡ taken d
+
+-- the test r of the point-day d: whether it is taken, and if it is the sum of its whole amounts
+pub record StateOf (d : PointDay) (r : StateTest) : Type 0 where
+  pub taken : IsTaken d (r .taken)
   pub sum : r .taken ≡ true → r .sum ≡ all-whole (read d .users)
+
+-- the same; if the point-day is taken, the column that held `before` starts with its whole amounts
+pub record TestedState (d : PointDay) (before : List ℤ) (r : StateTest) (after : List ℤ) : Type 0 where
+  pub state : StateOf d r
   pub wholes : r .taken ≡ true → after ≡ table (whole-at (d .consumption) (d .losses) (d .balance) (d .revision)) (d .count) ++ drop (d .count) before
 
 -- a test that decides P; if P holds, the sum of n whole amounts f, and the column starts with them

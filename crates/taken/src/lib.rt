@@ -9,16 +9,16 @@ ghost use Rattle.numbers.specs.Sums.{atZ};
 ghost use Rattle.numbers.specs.Amounts.{Within, Decides};
 ghost use Rattle.point_day.specs.Limits.{USERS, CELLS};
 ghost use Rattle.point_day.specs.Day.{measurement-right};
-ghost use Rattle.point_day.specs.Struct.{taken};
 ghost use Rattle.state.specs.Places.{ROOM, Lengths, offtake-at, whole-at};
 ghost use Rattle.point_day.specs.Fields.{point-day};
-ghost use Rattle.taken.specs.Tested.{TestedState, Found, Head, Ended, Offtakes, Balances, Entering, Allotted, added-at, any-large};
+ghost use Rattle.taken.specs.Tested.{IsTaken, TestedState, Found, Head, Ended, Offtakes, Balances, Entering, Allotted, added-at, any-large};
 ghost use Rattle.point_day.specs.declared.Stage.{Stage};
 use point_day::AMOUNT;
 use point_day::CELLS;
 use point_day::KINDS;
 use point_day::LIMIT;
 use point_day::Measurement;
+use point_day::PointDay;
 use point_day::USERS;
 
 // The greatest sum, and the least and the greatest whole amount.
@@ -45,7 +45,7 @@ pub struct StateTest {
 }
 
 // Not taken.
-fn untaken() -> StateTest
+pub fn untaken() -> StateTest
     ensures { λ r. ⌜ r .taken ≡ false ⌝ }
 {
     StateTest {
@@ -271,32 +271,30 @@ pub fn test_state<'a>(
     )
 }
 
-// Whether a point-day in parts is taken, at any stage.
-pub fn is_taken<'a>(
-    allotted: bool,
-    measurement: Measurement,
-    n: usize,
-    users: &'a [u16],
-    consumption: &'a [i64],
-    losses: &'a [i64],
-    balance: &'a [i64],
-    revision: &'a [i64],
-) -> bool
-    requires { ⌜ (length (now users) ≡ USERS) × Lengths (now consumption) (now losses) (now balance) (now revision) ⌝ }
-    ensures { λ r. ⌜ ((stage : Stage) → r ≡ taken (point-day stage allotted measurement n (now (users .entry)) (now (consumption .entry)) (now (losses .entry)) (now (balance .entry)) (now (revision .entry)))) ⌝ }
+// The test of a point-day by value; `wholes` then starts with its whole amounts.
+pub fn test_day(day: PointDay, wholes: &mut [i64]) -> StateTest
+    requires { ⌜ length (now wholes) ≡ USERS ⌝ }
+    ensures { λ r. ⌜ TestedState day (now (wholes .entry)) r (now (wholes .exit)) ⌝ }
+{
+    test_state(
+        day.allotted,
+        day.measurement,
+        day.count,
+        &day.users,
+        &day.consumption,
+        &day.losses,
+        &day.balance,
+        &day.revision,
+        wholes,
+    )
+}
+
+// Whether a point-day is taken.
+pub fn is_taken(day: PointDay) -> bool
+    ensures { λ r. ⌜ IsTaken day r ⌝ }
 {
     let mut wholes = point_day::no_amounts();
-    let test = test_state(
-        allotted,
-        measurement,
-        n,
-        users,
-        consumption,
-        losses,
-        balance,
-        revision,
-        &mut wholes,
-    );
+    let test = test_day(day, &mut wholes);
     test.taken
 }
 

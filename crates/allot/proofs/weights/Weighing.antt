@@ -13,7 +13,7 @@ use mir.Syntax.{w64}
 use mir.Val.{ofZ, toZ, SFits, Fits}
 use Rattle.numbers.specs.Sums.{pick, atZ, Bounded}
 use Rattle.numbers.specs.Amounts.{Between}
-use Rattle.numbers.proofs.Amounts.{pos-is}
+use Rattle.numbers.proofs.Amounts.{pos-size}
 use Rattle.proration.specs.Proration.{LARGEST-WEIGHT}
 use Rattle.point_day.specs.Limits.{USERS, CELLS, KINDS, LIMIT}
 use Rattle.point_day.specs.Calls.{by-basis}
@@ -28,10 +28,10 @@ use Rattle.allot.specs.UserWeights.{consumption-and-losses}
 
 module _ {x y : ℤ} (h : Between (pos 0) (pos LIMIT) x) (k : Between (pos 0) (pos LIMIT) y) where
   x-is : x ≡ pos (natAbs x)
-  x-is = pos-is x (between-sign x h)
+  x-is = pos-size x (between-sign x h)
 
   y-is : y ≡ pos (natAbs y)
-  y-is = pos-is y (between-sign y k)
+  y-is = pos-size y (between-sign y k)
 
   pub cell-fits : SFits w64 (toZ w64 (ofZ w64 x) +ℤ toZ w64 (ofZ w64 y))
   cell-fits = added-fits (natAbs x) (natAbs y) (omega (arith, low-size LIMIT x h)) (omega (arith, low-size LIMIT y k)) x-is y-is

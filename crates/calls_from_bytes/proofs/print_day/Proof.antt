@@ -1,5 +1,5 @@
 -- `calls_from_bytes::print_day` is safe: it shows a point-day that is taken, whose measurement and count are in range. Assumes nothing.
-use mathlib.Core.Bool.{Bool, true, false, not}
+use mathlib.Core.Bool.{Bool, false, not}
 use mathlib.Core.Path.{_≡_, sym, _∙_}
 use borrow.Author.Tests.{not-false}
 use Rattle.point_day.specs.Struct.{taken}
@@ -42,18 +42,14 @@ number-requires c κs = search needs
 
 print-measurement-requires : tie.Need-print-measurement-requires
 print-measurement-requires c κs =
-    let at = c .before .before .before in
-    let d = at .before .before .before .before .before .before .before .before .before .before .before .before .before .args .t1 in
-    shown d (at .before .is-taken .ensures (d .stage)) (at .if1 .left) .measurement
+    shown (c .before .before .before .before .before .args .day) (c .before .before .before .before .is-taken .ensures .is) (c .before .before .before .if1 .left) .measurement
 
 end-requires : tie.Need-end-requires
 end-requires c κs = search needs
 
 print-users-requires : tie.Need-print-users-requires
 print-users-requires c κs =
-    let at = c .before .before .before .before .before in
-    let d = at .before .before .before .before .before .before .before .before .before .before .before .before .before .args .t1 in
-    shown d (at .before .is-taken .ensures (d .stage)) (at .if1 .left) .few
+    shown (c .before .before .before .before .before .before .before .args .day) (c .before .before .before .before .before .before .is-taken .ensures .is) (c .before .before .before .before .before .if1 .left) .few
 
 returns-2 : tie.Need-returns-2
 returns-2 c = search needs

@@ -20,7 +20,7 @@ use Rattle.numbers.proofs.Sums.{length-table}
 use Rattle.proration.proofs.Signs.{lengthZ}
 use Rattle.point_day.specs.Limits.{USERS, CELLS, LIMIT}
 use Rattle.point_day.specs.Day.{Day, all-offtake, net, no-more, emission-right, measurement-right}
-use Rattle.point_day.specs.Calls.{day-balance, user-shares}
+use Rattle.point_day.specs.Calls.{user-shares}
 use Rattle.point_day.specs.Struct.{user-at, read, padded, laid, taken}
 use Rattle.point_day.specs.declared.Stage.the-variants.{Provisional}
 use Rattle.point_day.specs.declared.Measurement.{Measurement}

@@ -10,7 +10,8 @@ use Rattle.point_day.specs.Limits.{LIMIT}
 use Rattle.point_day.specs.Calls.{line-right}
 use Rattle.line.specs.declared.cells.CellLine.{CellLine}
 use Rattle.line.specs.declared.cells.CellLine.the-variants as line
-use Rattle.line.specs.Cell.{line-losses, past-limit, line-on, more, place}
+use Rattle.line.specs.Cell.{line-losses, past-limit, line-on, place}
+use Rattle.state.specs.Places.{more}
 use Rattle.line.proofs.cells.Ranges.{ranges, losses-small}
 use Rattle.file_lines.specs.Pieces.{line-so-far, is-added}
 use Rattle.file_lines.specs.declared.lines.SoFar.{SoFar}

@@ -1,32 +1,39 @@
--- `in_place::revise_tests` meets its contract: its parts are those of the point-day. Assumes nothing.
-use Rattle.plain_day.specs.Layout.{day-in}
+-- `in_place::revise_tests` meets its contract on the point-day that is read. Assumes nothing.
+use native.Mathlib.Omega.{arith}
 use borrow.Author.Needs.{needs}
+use borrow.Author.Tests.{not-true, not-false}
+use Rattle.point_day.specs.Limits.{TOLERANCE}
+use Rattle.point_day.specs.Calls.{revise}
+use Rattle.in_place.proofs.Taken.{refused-2, long, revise-rest, revise-found}
 use Rattle.in_place.proofs.revise_tests.Statement.{statement}
 use Rattle.in_place.proofs.revise_tests.Tie as tie
 
-sub-users-in : tie.Need-sub-users-in
-sub-users-in c = search needs
+no-users-requires : tie.Need-no-users-requires
+no-users-requires c κs = search needs
 
-part-users-in-start : tie.Need-part-users-in-start
-part-users-in-start c = search needs
+slice-aggregate-test-numbers : tie.Need-slice-aggregate-test-numbers
+slice-aggregate-test-numbers c = search needs
 
-part-users-in-end : tie.Need-part-users-in-end
-part-users-in-end c = search needs
+test-numbers-requires : tie.Need-test-numbers-requires
+test-numbers-requires c κs = search needs
 
-users-in-requires : tie.Need-users-in-requires
-users-in-requires c κs = search needs
+same-length : tie.Need-same-length
+same-length c = search needs
+
+returns : tie.Need-returns
+returns c = refused-2 (c .before .before .before .before .test-numbers .ensures) (not-true _ (c .if1 .taken)) (revise TOLERANCE)
 
 stage-in-requires : tie.Need-stage-in-requires
-stage-in-requires c κs = search needs
+stage-in-requires c κs = long (c .before .before .before .before .test-numbers .ensures) (not-false _ (c .if1 .left))
 
 allotted-in-requires : tie.Need-allotted-in-requires
-allotted-in-requires c κs = search needs
+allotted-in-requires c κs = long (c .before .before .before .before .before .test-numbers .ensures) (not-false _ (c .before .if1 .left))
 
 measurement-in-requires : tie.Need-measurement-in-requires
-measurement-in-requires c κs = search needs
+measurement-in-requires c κs = long (c .before .before .before .before .before .before .test-numbers .ensures) (not-false _ (c .before .before .if1 .left))
 
 count-in-requires : tie.Need-count-in-requires
-count-in-requires c κs = search needs
+count-in-requires c κs = long (c .before .before .before .before .before .before .before .test-numbers .ensures) (not-false _ (c .before .before .before .if1 .left))
 
 slice-aggregate-revise-test : tie.Need-slice-aggregate-revise-test
 slice-aggregate-revise-test c = search needs
@@ -38,54 +45,26 @@ part-revise-test-start : tie.Need-part-revise-test-start
 part-revise-test-start c = search needs
 
 part-revise-test-end : tie.Need-part-revise-test-end
-part-revise-test-end c = search needs
-
-sub-revise-test-2 : tie.Need-sub-revise-test-2
-sub-revise-test-2 c = search needs
-
-part-revise-test-start-2 : tie.Need-part-revise-test-start-2
-part-revise-test-start-2 c = search needs
-
-part-revise-test-end-2 : tie.Need-part-revise-test-end-2
-part-revise-test-end-2 c = search needs
-
-sub-revise-test-3 : tie.Need-sub-revise-test-3
-sub-revise-test-3 c = search needs
-
-part-revise-test-start-3 : tie.Need-part-revise-test-start-3
-part-revise-test-start-3 c = search needs
-
-part-revise-test-end-3 : tie.Need-part-revise-test-end-3
-part-revise-test-end-3 c = search needs
-
-sub-revise-test-4 : tie.Need-sub-revise-test-4
-sub-revise-test-4 c = search needs
-
-part-revise-test-start-4 : tie.Need-part-revise-test-start-4
-part-revise-test-start-4 c = search needs
-
-part-revise-test-end-4 : tie.Need-part-revise-test-end-4
-part-revise-test-end-4 c = search needs
+part-revise-test-end c = omega (arith, long (c .before .before .before .before .before .before .before .before .before .test-numbers .ensures) (not-false _ (c .before .before .before .before .before .if1 .left)))
 
 revise-test-requires : tie.Need-revise-test-requires
-revise-test-requires c κs = search needs
+revise-test-requires c κs = (revise-rest (c .before .before .before .before .before .before .before .before .before .before .before .test-numbers .ensures) (not-false _ (c .before .before .before .before .before .before .before .if1 .left)) (c .before .before .before .before .before .allotted-in .ensures) (c .before .before .before .count-in .ensures) (c .before .before .before .before .measurement-in .ensures) (c .before .before .before .before .before .before .stage-in .ensures), search needs, search needs)
 
-same-length : tie.Need-same-length
-same-length c = search needs
+same-length-2 : tie.Need-same-length-2
+same-length-2 c = search needs
 
-returns : tie.Need-returns
-unfolding day-in
-returns c =
-    rw (c .before .before .before .before .before .before .before .before .before .before .before .before .users-in .ensures, c .before .before .before .before .before .before .before .before .before .before .before .stage-in .ensures, c .before .before .before .before .before .before .before .before .before .before .allotted-in .ensures, c .before .before .before .before .before .before .before .before .before .measurement-in .ensures, c .before .before .before .before .before .before .before .before .count-in .ensures) at (c .before .revise-test .ensures)
+returns-2 : tie.Need-returns-2
+returns-2 c = revise-found (c .before .before .before .before .before .before .before .before .before .before .before .before .before .test-numbers .ensures) (not-false _ (c .before .before .before .before .before .before .before .before .before .if1 .left)) (c .before .before .before .before .before .before .before .allotted-in .ensures) (c .before .before .before .before .before .count-in .ensures) (c .before .before .before .before .before .before .measurement-in .ensures) (c .before .before .before .before .before .before .before .before .stage-in .ensures) (c .before .revise-test .result) (c .before .revise-test .last .1 .1 .1 .1 .1 .1 .1 .1 .0) (c .before .revise-test .ensures)
 
 pub revise-tests-spec : {M : Type 1} → statement M
 revise-tests-spec =
     tie.close
     (tie.spec
-    sub-users-in
-    part-users-in-start
-    part-users-in-end
-    users-in-requires
+    no-users-requires
+    slice-aggregate-test-numbers
+    test-numbers-requires
+    same-length
+    returns
     stage-in-requires
     allotted-in-requires
     measurement-in-requires
@@ -94,15 +73,6 @@ revise-tests-spec =
     sub-revise-test
     part-revise-test-start
     part-revise-test-end
-    sub-revise-test-2
-    part-revise-test-start-2
-    part-revise-test-end-2
-    sub-revise-test-3
-    part-revise-test-start-3
-    part-revise-test-end-3
-    sub-revise-test-4
-    part-revise-test-start-4
-    part-revise-test-end-4
     revise-test-requires
-    same-length
-    returns)
+    same-length-2
+    returns-2)

@@ -1,34 +1,16 @@
--- A line at its cell: sums of 64 bits, the answer and what is written. Assumes nothing.
-use mathlib.Core.Path.{_≡_, ap₂}
-use Prim.Native.Nat.{ℕ, _≤_}
-use native.Mathlib.Omega.{arith}
-use lib.IntN.{ℤ, pos, _+ℤ_}
-use mir.Syntax.{w64}
-use mir.Val.{ofZ, toZ, SFits}
-use Rattle.numbers.specs.Amounts.{Within}
-use Rattle.numbers.proofs.Amounts.{back, sfits, widen, within-add, within-pos}
-use Rattle.point_day.specs.Limits.{LIMIT}
-use mathlib.Core.Path.{_≡_, refl, sym, ap, ap₂, _∙_}
+-- A line at its cell: the answer and what is written. Assumes nothing.
+use mathlib.Core.Path.{_≡_, refl, sym, ap, _∙_}
 use mathlib.Core.Bool.{true, false}
 use mathlib.Core.List.{List}
 use Prim.Native.Nat.{ℕ, _+_, _≤_, _<_}
 use lib.Dec.{ltb}
-use lib.IntN.{ℤ, pos}
+use lib.IntN.{ℤ}
 use borrow.Author.Tests.{lt-ltb, le-ltb}
 use Rattle.numbers.specs.Sums.{pick}
 use Rattle.point_day.specs.Limits.{LIMIT}
+use Rattle.state.specs.Places.{more}
 use Rattle.line.specs.declared.cells.CellLine.the-variants.{Refused, Added}
-use Rattle.line.specs.Cell.{line-losses, past-limit, line-on, place, more}
-
-module _ (x : ℤ) (n : ℕ) (h : Within LIMIT x) (l : n ≤ LIMIT) where
-  cell-is : toZ w64 (ofZ w64 x) +ℤ toZ w64 n ≡ x +ℤ pos n
-  cell-is = ap₂ _+ℤ_ (back h (omega arith)) (back {m = LIMIT} {z = pos n} (widen (within-pos n) l) (omega arith))
-
-  pub cell-fits : SFits w64 (toZ w64 (ofZ w64 x) +ℤ toZ w64 n)
-  cell-fits = rw cell-is (sfits (within-add h (widen (within-pos n) l)) (omega arith))
-
-  pub cell-back : toZ w64 (ofZ w64 (toZ w64 (ofZ w64 x) +ℤ toZ w64 n)) ≡ x +ℤ pos n
-  cell-back = rw cell-is (back (within-add h (widen (within-pos n) l)) (omega arith))
+use Rattle.line.specs.Cell.{line-losses, past-limit, line-on, place}
 
 module _ (sum c k slot kind : ℕ) (cs ls : List ℤ) (x : ℕ) (e : x ≡ line-losses c k) where
   pub cell-refused : LIMIT < sum + (c + x)

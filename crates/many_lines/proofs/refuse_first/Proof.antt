@@ -1,8 +1,6 @@
 -- `many_lines::refuse_first` meets its contract. Assumes nothing.
 use mathlib.Core.Path.{refl}
 use borrow.Author.Tests.{eq-eqb, ne-eqb}
-use borrow.Author.Needs.{needs}
-use native.Mathlib.Omega.{arith}
 use Rattle.many_lines.proofs.refuse_first.Statement.{statement}
 use Rattle.many_lines.proofs.refuse_first.Tie as tie
 

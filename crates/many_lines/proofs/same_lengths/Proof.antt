@@ -2,8 +2,6 @@
 use mathlib.Core.Path.{refl}
 use lib.ListN.{length}
 use borrow.Author.Tests.{eq-eqb, ne-eqb}
-use borrow.Author.Needs.{needs}
-use native.Mathlib.Omega.{arith}
 use Rattle.many_lines.proofs.same_lengths.Statement.{statement}
 use Rattle.many_lines.proofs.same_lengths.Tie as tie
 

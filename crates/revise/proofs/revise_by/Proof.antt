@@ -11,11 +11,19 @@ use Rattle.revise.proofs.revise_by.Tie as tie
 no-amounts-requires : tie.Need-no-amounts-requires
 no-amounts-requires c κs = search needs
 
+slice-aggregate-test-day : tie.Need-slice-aggregate-test-day
+slice-aggregate-test-day c = search needs
+
+test-day-requires : tie.Need-test-day-requires
+test-day-requires c κs = search needs
+
 slice-aggregate-revise-test : tie.Need-slice-aggregate-revise-test
 slice-aggregate-revise-test c = search needs
 
 revise-test-requires : tie.Need-revise-test-requires
-revise-test-requires c κs = search needs
+revise-test-requires c κs =
+    let d = c .before .before .before .before .before .before .before .before .before .before .args .t1 in
+    (record { consumption = d .consumption; losses = d .losses; balance = d .balance; before = _; tested = c .before .before .before .before .before .before .before .test-day .ensures }, search needs, c .before .before .before .before .before .before .before .before .before .before .pre)
 
 enum-known-test : tie.Need-enum-known-test
 enum-known-test c = search needs
@@ -37,24 +45,25 @@ assigned-requires c κs = search needs
 
 returns : tie.Need-returns
 returns c =
-    let t = c .before .before .test .given in
-    let E = c .before .before .before .before .before .revise-test .ensures in
-    c .refuse .ensures ∙ (rw (t .1) at E)
+    let d = c .before .before .before .before .before .before .before .before .before .before .before .before .before .before .before .before .args .t1 in
+    let E = c .before .before .before .before .before .revise-test .ensures (record { consumption = d .consumption; losses = d .losses; balance = d .balance; before = _; tested = c .before .before .before .before .before .before .before .before .before .before .before .before .before .test-day .ensures }) in
+    c .refuse .ensures ∙ (rw (c .before .before .test .given .1) at E)
 
 returns-2 : tie.Need-returns-2
 returns-2 c =
+    let d = c .before .before .before .before .before .before .before .before .before .before .before .before .before .before .before .before .args .t1 in
     let t = c .before .before .test2 .given in
-    let E = c .before .before .before .before .before .revise-test .ensures in
+    let E = c .before .before .before .before .before .revise-test .ensures (record { consumption = d .consumption; losses = d .losses; balance = d .balance; before = _; tested = c .before .before .before .before .before .before .before .before .before .before .before .before .before .test-day .ensures }) in
     let f : SFits w64 (t .0 .0) = search needs in
     (rw (toZ-ofZ f) at (c .within .ensures)) ∙ (rw (t .1) at E)
 
 returns-3 : tie.Need-returns-3
 returns-3 c =
-    let a = c .before .before .before .before .before .before .before .before .before .before .before .before .before .before .before .before .before .before .before .args in
+    let d = c .before .before .before .before .before .before .before .before .before .before .before .before .before .before .before .before .args .t1 in
     let t = c .before .before .test3 .given in
-    let E = c .before .before .before .before .before .revise-test .ensures in
+    let E = c .before .before .before .before .before .revise-test .ensures (record { consumption = d .consumption; losses = d .losses; balance = d .balance; before = _; tested = c .before .before .before .before .before .before .before .before .before .before .before .before .before .test-day .ensures }) in
     let f : SFits w64 (t .0 .0) = search needs in
-    let A : Assigns (a .tolerance) (a .t1) (t .0 .0) _ = rw (t .1) at E in
+    let A : Assigns (c .before .before .before .before .before .before .before .before .before .before .before .before .before .before .before .before .args .tolerance) d (t .0 .0) _ = rw (t .1) at E in
     (rw (toZ-ofZ f) at (c .assigned .ensures)) ∙ A .is
 
 pub revise-by-spec : {M : Type 1} → statement M
@@ -62,6 +71,8 @@ revise-by-spec =
     tie.close
     (tie.spec
     no-amounts-requires
+    slice-aggregate-test-day
+    test-day-requires
     slice-aggregate-revise-test
     revise-test-requires
     enum-known-test

@@ -5,7 +5,6 @@ use Rattle.day_file.specs.declared.Header.{Header}
 use Rattle.file_lines.specs.Entering.{Entered, Unless-refused}
 use Rattle.day_report.proofs.allotment.Allotting.{reported, refusing, zeros-entered, sections-refuse, sections-lead}
 use borrow.Author.Needs.{needs}
-use native.Mathlib.Omega.{arith}
 use Rattle.day_report.proofs.allotment.enter.Statement.{statement}
 use Rattle.day_report.proofs.allotment.enter.Tie as tie
 

@@ -10,12 +10,6 @@ use Rattle.numbers.proofs.Amounts.{widen}
 use Rattle.revise.proofs.assignment.Adding.{first-long, shares-long, shares-small, large-is, revisions-are}
 use Rattle.revise.proofs.assignment.assign.Statement.{statement}
 use Rattle.revise.proofs.assignment.assign.Tie as tie
-use Rattle.revise.proofs.assignment.assign.Reads as reads
-use Rattle.revise.proofs.assignment.assign.Lts as lts
-use Rattle.columns.proofs.shares.share_out.Reads as share-out-reads
-use Rattle.revise.proofs.outstanding.add_columns.Reads as add-columns-reads
-use Rattle.point_day.proofs.no_amounts.Reads as no-amounts-reads
-use Rattle.taken.proofs.wholes_too_large.Reads as wholes-too-large-reads
 
 no-amounts-requires : tie.Need-no-amounts-requires
 no-amounts-requires c κs = search needs

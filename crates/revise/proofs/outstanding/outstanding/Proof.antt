@@ -2,7 +2,6 @@
 use mathlib.Core.Path.{_≡_, ap, _∙_}
 use mathlib.Core.Bool.{true, not}
 use Prim.Native.Nat.{ℕ, _≤_}
-use native.Mathlib.Omega.{arith}
 use lib.Dec.{lit≤, lit<}
 use lib.IntN.{ℤ, pos, natAbs, _-ℤ_}
 use borrow.Author.Needs.{needs}
@@ -12,14 +11,14 @@ use mir.Val.{toZ, ofZ}
 use mir.Facts.{toZ-ofZ}
 use Rattle.numbers.specs.Amounts.{Within, is-negative}
 use Rattle.numbers.proofs.Lists.{both-fst, both-snd}
-use Rattle.numbers.proofs.Amounts.{widen, back, pos-is, size-sub}
+use Rattle.numbers.proofs.Amounts.{widen, back, pos-size, size-sub}
 use Rattle.point_day.specs.Limits.{LIMIT}
 use Rattle.point_day.specs.Struct.{sum-right}
 use Rattle.revise.proofs.outstanding.outstanding.Statement.{statement}
 use Rattle.revise.proofs.outstanding.outstanding.Tie as tie
 
 sum-pos : (s : ℤ) → sum-right s ≡ true → s ≡ pos (natAbs s)
-sum-pos s e = pos-is s (not-true _ (both-fst (not (is-negative s)) _ e))
+sum-pos s e = pos-size s (not-true _ (both-fst (not (is-negative s)) _ e))
 
 sum-within : (s : ℤ) → sum-right s ≡ true → Within LIMIT s
 sum-within s e = record { size = leb-true (natAbs s) LIMIT (both-snd (not (is-negative s)) _ e) }

@@ -1,6 +1,5 @@
 -- `seatpomelo::lists::toll_in` meets its contract. Assumes nothing.
 use borrow.Author.Tests.{eq-eqb, ne-eqb}
-use borrow.Author.Needs.{needs}
 use Rattle.seatpomelo.proofs.lists.toll_in.Statement.{statement}
 use Rattle.seatpomelo.proofs.lists.toll_in.Tie as tie
 
