@@ -131,26 +131,56 @@ fn cut_of_many(rems: &[u64], left: u64) -> u64 {
     low
 }
 
-// A key with `left` parties before it at the remainder x, by halving.
-fn cut_key(rems: &[u64], keys: &[u64], x: u64, left: u64) -> u64
+// The key of the party of the remainder x that has `nth` of that remainder before it by their places; the largest number if there is
+// none.
+fn key_by_place(rems: &[u64], keys: &[u64], x: u64, nth: u64) -> u64
     requires { ⌜ length (now rems) ≤ length (now keys) ⌝ }
 {
-    let above = count_above(rems, x);
+    let mut more = nth;
+    let mut i = 0;
+    while i < rems.len() {
+        if rems[i] == x {
+            if more == 0 {
+                return keys[i];
+            }
+            more -= 1;
+        }
+        i += 1;
+    }
+    u64::MAX
+}
+
+// A key with `nth` parties of the remainder x before it, by halving.
+fn key_by_halving(rems: &[u64], keys: &[u64], x: u64, nth: u64) -> u64
+    requires { ⌜ length (now rems) ≤ length (now keys) ⌝ }
+{
     let mut low: u64 = 0;
     let mut high = largest(keys);
     while low < high {
         let middle = low + (high - low) / 2;
-        let ahead = above + count_tied(rems, keys, x, middle);
-        if ahead == left {
+        let ahead = count_tied(rems, keys, x, middle);
+        if ahead == nth {
             return middle;
         }
-        if left < ahead {
+        if nth < ahead {
             high = middle;
         } else {
             low = middle + 1;
         }
     }
     low
+}
+
+// A key with `left` parties before it at the remainder x: by place, where keys rise; else by halving.
+fn cut_key(rems: &[u64], keys: &[u64], x: u64, left: u64) -> u64
+    requires { ⌜ length (now rems) ≤ length (now keys) ⌝ }
+{
+    let nth = std::num::wrapping_sub_u64(left, count_above(rems, x));
+    let key = key_by_place(rems, keys, x, nth);
+    if count_tied(rems, keys, x, key) == nth {
+        return key;
+    }
+    key_by_halving(rems, keys, x, nth)
 }
 
 // One unit more to each party that is served before the remainder x of key y.

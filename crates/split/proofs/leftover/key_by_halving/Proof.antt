@@ -1,17 +1,14 @@
--- `split::leftover::cut_key` is safe and ends: each turn halves what lies between `low` and `high`. Assumes nothing.
+-- `split::leftover::key_by_halving` is safe and ends: each turn halves what lies between `low` and `high`. Assumes nothing.
 use Prim.Native.Nat.{_-_, _<_, _^_}
 use borrow.Author.Needs.{needs}
-use Rattle.split.proofs.leftover.cut_key.Statement.{statement}
-use Rattle.split.proofs.leftover.cut_key.Tie as tie
+use Rattle.split.proofs.leftover.key_by_halving.Statement.{statement}
+use Rattle.split.proofs.leftover.key_by_halving.Tie as tie
 
 abbrev Inv-loop : tie.InvT-loop
-Inv-loop rems keys x left above low₀ high₀ low high = high < 2 ^ 64
+Inv-loop rems keys x nth low₀ high₀ low high = high < 2 ^ 64
 
 abbrev μ-loop : tie.MeasureT-loop
-μ-loop rems keys x left above low₀ high₀ low high = high - low
-
-count-above-requires : tie.Need-count-above-requires Inv-loop μ-loop
-count-above-requires c κs = search needs
+μ-loop rems keys x nth low₀ high₀ low high = high - low
 
 largest-requires : tie.Need-largest-requires Inv-loop μ-loop
 largest-requires c κs = search needs
@@ -27,9 +24,6 @@ add-middle c = search needs
 
 count-tied-requires : tie.Need-count-tied-requires Inv-loop μ-loop
 count-tied-requires c κs = search needs
-
-add-ahead : tie.Need-add-ahead Inv-loop μ-loop
-add-ahead c = search needs
 
 returns : tie.Need-returns Inv-loop μ-loop
 returns c = search needs
@@ -52,19 +46,17 @@ loop-again-2 c = search needs
 returns-2 : tie.Need-returns-2 Inv-loop μ-loop
 returns-2 c = search needs
 
-pub cut-key-spec : {M : Type 1} → statement M
-cut-key-spec =
+pub key-by-halving-spec : {M : Type 1} → statement M
+key-by-halving-spec =
     tie.close
     (tie.spec
     Inv-loop
     μ-loop
-    count-above-requires
     largest-requires
     loop-holds
     sub-middle
     add-middle
     count-tied-requires
-    add-ahead
     returns
     loop-less
     loop-again
