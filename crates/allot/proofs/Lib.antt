@@ -1,1 +1,2 @@
+mod OfParts
 pub mod Outcomes

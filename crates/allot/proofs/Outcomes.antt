@@ -33,7 +33,7 @@ use Rattle.point_day.proofs.Called.{called-refused, called-accepted, test-holds
 use Rattle.point_day.proofs.Each.{all-at, zip-at, anything, length-some}
 use Rattle.point_day.proofs.Sound.{taken-sound}
 use Rattle.point_day.proofs.Wholes.{small-right, length-weights, kinds-size, shares-long, allot-sizes, balance-size, allot-small}
-use Rattle.point_day.proofs.Weights.{balanced-long}
+use Rattle.point_day.proofs.Counts.{balanced-long}
 use Rattle.state.specs.Places.{From, ROOM, Small, Summable, whole-at}
 use Rattle.state.proofs.Cells.{within-from}
 use Rattle.taken.specs.Tested.{any-large}

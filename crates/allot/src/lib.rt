@@ -4,56 +4,79 @@ pub mod shares;
 pub mod weights;
 
 ghost use mathlib.Core.Path.{_≡_};
+ghost use mathlib.Core.Bool.{true};
 ghost use mathlib.Core.List.{[]};
-ghost use Prim.Native.Nat.{_≤_};
 ghost use lib.IntN.{pos};
-ghost use lib.ListN.{length};
-ghost use Rattle.point_day.specs.Limits.{USERS, CELLS};
+ghost use Rattle.numbers.specs.Refusals.{OUT-OF-RANGE};
+ghost use Rattle.point_day.specs.Limits.{CELLS};
 ghost use Rattle.point_day.specs.Calls.{allot};
 ghost use Rattle.point_day.specs.Answers.{answer-of};
 ghost use Rattle.point_day.specs.Struct.{padded, outcome, called};
-ghost use Rattle.allot.specs.Allotted.{with-balances, Tested, Rest, with-rest};
+ghost use Rattle.point_day.specs.declared.PointDay.{PointDay};
+ghost use Rattle.taken.specs.Tested.{Finds, Some};
+ghost use Rattle.allot.specs.Allotted.{with-balances, Tested, Has, Allottable, Balanced};
 use point_day::Answer;
 use point_day::CELLS;
-use point_day::Measurement;
 use point_day::Outcome;
 use point_day::PointDay;
 use taken::StateTest;
 
-// The tests of allot on a point-day with these parts, of which `state` is the test: 0, or the number of the refusal. `cells`, zeros before,
-// are then the balances; `shares` is scratch, for the users' shares and then their whole amounts.
-pub fn allot_test<'a>(
+// The balance of an entering point-day with these cells and revisions over its users and kinds, into cells of zeros; whether a whole amount
+// is then too large.
+fn cells_test<'a>(
     state: StateTest,
-    allotted: bool,
-    measurement: Measurement,
-    n: usize,
-    users: &'a [u16],
     consumption: &'a [i64],
     losses: &'a [i64],
     revision: &'a [i64],
-    shares: &mut [i64],
+    cells: &mut [i64],
+) -> bool
+    requires { ⌜ Some (Allottable state (now consumption) (now losses) (now revision)) × (now cells ≡ padded CELLS (pos 0) []) ⌝ }
+    ensures { λ r. ⌜ ((d : PointDay) → Allottable state (now (consumption .entry)) (now (losses .entry)) (now (revision .entry)) d → Balanced (now (cells .exit)) d r) ⌝ }
+{
+    let n = state.count;
+    let users = state.users;
+    let mut shares = state.wholes;
+    let measurement = state.measurement;
+    let day_balance = numbers::minus(state::net(measurement) as i64, state.sum);
+    balance::balance_cells(
+        day_balance,
+        consumption,
+        losses,
+        &users,
+        n,
+        &mut shares,
+        cells,
+    );
+    state::whole_amounts(consumption, losses, cells, revision, n, &mut shares);
+    taken::wholes_too_large(&shares[..n])
+}
+
+// The tests of allot on a point-day with these cells and revisions, of which `state` is the test: 0, or the number of the refusal. `cells`,
+// zeros before, are then the balances.
+pub fn allot_test<'a>(
+    state: StateTest,
+    consumption: &'a [i64],
+    losses: &'a [i64],
+    revision: &'a [i64],
     cells: &mut [i64],
 ) -> u8
-    requires { ⌜ Rest allotted measurement n (now users) (now consumption) (now losses) (now revision) state × (USERS ≤ length (now shares)) × (now cells ≡ padded CELLS (pos 0) []) ⌝ }
-    ensures { λ r. ⌜ ((x : Rest allotted measurement n (now (users .entry)) (now (consumption .entry)) (now (losses .entry)) (now (revision .entry)) state) → Tested (now (cells .exit)) (with-rest x) r) ⌝ }
+    requires { ⌜ (state .taken ≡ true → Some (Has state (now consumption) (now losses) (now revision))) × (now cells ≡ padded CELLS (pos 0) []) ⌝ }
+    ensures { λ r. ⌜ Finds state (r ≡ OUT-OF-RANGE) (λ d. d .consumption ≡ now (consumption .entry) → d .losses ≡ now (losses .entry) → d .revision ≡ now (revision .entry) → Tested (now (cells .exit)) d r) ⌝ }
 {
     if !state.taken {
         return numbers::OUT_OF_RANGE;
     }
-    if allotted {
+    if state.allotted {
         return numbers::WRONG_STAGE;
     }
+    let measurement = state.measurement;
     if !state::is_measured(measurement) {
         return numbers::UNMEASURED;
     }
-    if n == 0 {
+    if state.count == 0 {
         return numbers::NO_USER;
     }
-    let sum = state.sum;
-    let day_balance = numbers::minus(state::net(measurement) as i64, sum);
-    balance::balance_cells(day_balance, consumption, losses, users, n, shares, cells);
-    state::whole_amounts(consumption, losses, cells, revision, n, shares);
-    if taken::wholes_too_large(&shares[..n]) {
+    if cells_test(state, consumption, losses, revision, cells) {
         return numbers::AMOUNT_TOO_LARGE;
     }
     0
@@ -74,20 +97,13 @@ fn put_balances(day: PointDay, balance: [i64; CELLS]) -> PointDay
 pub fn allot(day: PointDay) -> Outcome
     ensures { λ r. ⌜ outcome (answer-of (r .answer)) (r .day) ≡ called allot day ⌝ }
 {
-    let mut wholes = point_day::no_amounts();
+    let state = taken::test_day(day);
     let mut cells = point_day::no_cells();
-    let measurement = day.measurement;
-    let state = taken::test_day(day, &mut wholes);
     let number = allot_test(
         state,
-        day.allotted,
-        measurement,
-        day.count,
-        &day.users,
         &day.consumption,
         &day.losses,
         &day.revision,
-        &mut wholes,
         &mut cells,
     );
     if number != 0 {

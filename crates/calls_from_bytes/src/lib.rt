@@ -6,9 +6,6 @@ ghost use lib.ListN.{length};
 ghost use Rattle.point_day.specs.Limits.{USERS, CELLS};
 ghost use Rattle.point_day.specs.Day.{measurement-right};
 ghost use Rattle.console.specs.Input.{Onward, Moved};
-
-mod input;
-
 use console::cursor;
 use console::cursor::Cursor;
 use console::cursor::MOST_LENT;
@@ -100,7 +97,7 @@ fn join(s: &[u8], from: Cursor, day: PointDay) -> After
 fn line(s: &[u8], from: Cursor, day: PointDay) -> After
     ensures { λ r. ⌜ Onward from (r .next) ⌝ }
 {
-    let a = input::read_line(s, from);
+    let a = arguments_from_bytes::read_line(s, from);
     let next = a.next;
     if !next.ok {
         return After { next, day };
@@ -112,7 +109,7 @@ fn line(s: &[u8], from: Cursor, day: PointDay) -> After
 fn edit(s: &[u8], from: Cursor, day: PointDay) -> After
     ensures { λ r. ⌜ Onward from (r .next) ⌝ }
 {
-    let a = input::read_line(s, from);
+    let a = arguments_from_bytes::read_line(s, from);
     let next = a.next;
     if !next.ok {
         return After { next, day };
@@ -151,7 +148,7 @@ fn revise(next: Cursor, day: PointDay) -> After
 fn stand_in(s: &[u8], from: Cursor, day: PointDay) -> After
     ensures { λ r. ⌜ Onward from (r .next) ⌝ }
 {
-    let arguments = input::read_rows(s, from);
+    let arguments = arguments_from_bytes::read_rows(s, from);
     let next = arguments.next;
     if !next.ok {
         return After { next, day };
@@ -232,7 +229,8 @@ fn print_users(day: PointDay)
 }
 
 fn print_day(day: PointDay) {
-    if !taken::is_taken(day) {
+    let state = taken::test_day(day);
+    if !state.taken {
         output::refused(OUT_OF_RANGE);
         return;
     }
@@ -268,11 +266,11 @@ fn read_arrays(s: &[u8], from: Cursor, day: PointDay) -> After
     let mut losses = day.losses;
     let mut balance = day.balance;
     let mut revision = day.revision;
-    let after_users = input::read_users(s, from, &mut users);
-    let after_consumption = input::read_cells(s, after_users, &mut consumption);
-    let after_losses = input::read_cells(s, after_consumption, &mut losses);
-    let after_balance = input::read_cells(s, after_losses, &mut balance);
-    let next = input::read_revisions(s, after_balance, &mut revision);
+    let after_users = arguments_from_bytes::read_users(s, from, &mut users);
+    let after_consumption = arguments_from_bytes::read_cells(s, after_users, &mut consumption);
+    let after_losses = arguments_from_bytes::read_cells(s, after_consumption, &mut losses);
+    let after_balance = arguments_from_bytes::read_cells(s, after_losses, &mut balance);
+    let next = arguments_from_bytes::read_revisions(s, after_balance, &mut revision);
     let filled = PointDay {
         users,
         consumption,
@@ -287,7 +285,7 @@ fn read_arrays(s: &[u8], from: Cursor, day: PointDay) -> After
 fn load(s: &[u8], from: Cursor, day: PointDay) -> After
     ensures { λ r. ⌜ Onward from (r .next) ⌝ }
 {
-    let head = input::read_head(s, from);
+    let head = arguments_from_bytes::read_head(s, from);
     let arrays = read_arrays(s, head.next, day);
     let next = arrays.next;
     if !next.ok {

@@ -8,8 +8,8 @@ use Rattle.numbers.specs.Sums.{total, totalZ}
 use Rattle.numbers.specs.Lists.{flat}
 use Rattle.numbers.proofs.Lists.{map-map, map-eq}
 use Rattle.numbers.proofs.Amounts.{exchange}
-use Rattle.point_day.specs.Limits.{CELLS}
-use Rattle.point_day.specs.Day.{User, Day, whole, all-whole}
+use Rattle.point_day.specs.Limits.{USERS, CELLS}
+use Rattle.point_day.specs.Day.{User, Day, all-whole}
 use Rattle.point_day.specs.Struct.{padded, laid}
 use Rattle.day_book.specs.Arrays.{everything}
 
@@ -61,5 +61,5 @@ everything-laid d =
     ap₂ _+ℤ_
     (ap₂ _+ℤ_ (cells-sum _ used (λ u. numbers-sum (u .consumption)) us) (cells-sum _ lost (λ u. numbers-sum (u .losses)) us)
     ∙ added-sum used lost us)
-    (ap₂ _+ℤ_ (cells-sum _ shared (λ u. refl) us) (padded-sum 64 (map revised us)) ∙ added-sum shared revised us)
+    (ap₂ _+ℤ_ (cells-sum _ shared (λ u. refl) us) (padded-sum USERS (map revised us)) ∙ added-sum shared revised us)
     ∙ added-sum (λ u. used u +ℤ lost u) (λ u. shared u +ℤ revised u) us

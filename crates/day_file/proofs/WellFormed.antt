@@ -80,10 +80,6 @@ pub record Inside (f : List ℕ) (i : ℕ) : Type 0 where
   pub section : end-of (section-at f i) ≤ length f
 
 module _ (f : List ℕ) (w : well-formed f ≡ true) where
-  pub header-inside : HEADER ≤ length f
-  unfolding well-formed
-  header-inside = leb-true HEADER (length f) (both-fst (leb HEADER (length f)) _ (both-snd (leb (length f) MOST-BYTES) _ w))
-
   rest : both (leb (pairs-end f) (length f)) (sections-right f (sections f)) ≡ true
   unfolding well-formed
   rest = both-snd (has-mark f) _ (both-snd (leb HEADER (length f)) _ (both-snd (leb (length f) MOST-BYTES) _ w))

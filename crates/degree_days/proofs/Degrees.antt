@@ -75,9 +75,6 @@ is-above (negsuc b) h k = true≢false h
 pub below-most : (t : ℤ) → leZ LOWEST t ≡ true → ltZ t BASE ≡ true → {c : ℕ} → pos c ≡ BASE -ℤ t → c ≤ 650
 below-most t h k {c} e = let b = is-below t h k in omega (arith, b .most, pos-same (e ∙ b .is))
 
-pub above-most : (t : ℤ) → ltZ t BASE ≡ false → leZ t HIGHEST ≡ true → {w : ℕ} → pos w ≡ t -ℤ BASE → w ≤ 450
-above-most t h k {w} e = let b = is-above t h k in omega (arith, b .most, pos-same (e ∙ b .is))
-
 -- ---- a small distance in a local of 32 bits
 
 module _ {z : ℤ} {n : ℕ} (e : z ≡ pos n) (l : n ≤ 650) where

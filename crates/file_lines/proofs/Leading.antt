@@ -38,11 +38,6 @@ module _ (p q : Measurement → PointDay) where
   pub leads-stop : {n : ℕ} (ds bs : List Call) → Leads ds p q → Stops n bs q → Stops n (ds ++ bs) p
   leads-stop ds bs h k g m rest r = rw (append-assoc ds bs rest) (h g m (bs ++ rest) r ∙ k g m rest r)
 
-  -- whatever the answer
-  pub leads-to : (s : Measurement → PointDay) (r : SoFar) (ds bs : List Call) → Leads ds p q → Comes-to r bs q s → Comes-to r (ds ++ bs) p s
-  leads-to s (Refused n) ds bs h k = leads-stop ds bs h k
-  leads-to s (Offtake x) ds bs h k = leads-then s ds bs h k
-
 pub stops-there : {n : ℕ} (p : Measurement → PointDay) (ds bs : List Call) → Stops n ds p → Stops n (ds ++ bs) p
 stops-there p ds bs h g m rest r = rw (append-assoc ds bs rest) (h g m (bs ++ rest) r)
 

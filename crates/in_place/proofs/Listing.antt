@@ -1,17 +1,15 @@
 -- The inventory of plain numbers, by what the inventory of the point-day is. Assumes nothing.
-use mathlib.Core.Path.{_≡_, refl, sym, subst}
+use mathlib.Core.Path.{_≡_, refl, subst}
 use mathlib.Core.Bool.{Bool, true, false}
 use mathlib.Core.List.{List}
-use Prim.Native.Nat.{ℕ, _*_, _≤_}
+use Prim.Native.Nat.{ℕ}
 use lib.IntN.{ℤ}
-use lib.ListN.{length}
-use Rattle.point_day.specs.Limits.{KINDS, CELLS}
 use Rattle.numbers.specs.Sums.{pick}
 use Rattle.numbers.specs.Lists.{both}
 use Rattle.point_day.specs.Struct.{read, taken}
-use Rattle.inventory.specs.Inventory.{Answer, refused, written, inventory, Written, Afterwards}
-use Rattle.inventory.specs.Listed.{listed-in, Lists}
-use Rattle.plain_day.specs.Layout.{is-readable, count-in, day-in}
+use Rattle.inventory.specs.Inventory.{Answer, refused, written, inventory, Afterwards}
+use Rattle.inventory.specs.Listed.{Ends}
+use Rattle.plain_day.specs.Layout.{is-readable, day-in}
 use Rattle.plain_day.specs.Lines.{is-taken}
 use Rattle.in_place.specs.Listing.{plain-inventory, status, row-count}
 
@@ -36,15 +34,8 @@ module _ (xs out : List ℤ) (before : ℕ) where
     unfolding plain-inventory
     readable a q = rw e q
 
-    pub refuses : (n : ℕ) → refused n ≡ inventory (day-in xs) out → Gives xs out before (plain-inventory xs out) n before out
-    refuses n q = as-plain (refused n) (readable (refused n) q) n before out (refl, (refl, refl))
+    pub refuses : (n : ℕ) (after : List ℤ) → Ends (day-in xs) out (refused n) after → Gives xs out before (plain-inventory xs out) n before after
+    refuses n after (q, h) = as-plain (refused n) (readable (refused n) q) n before after (refl, (refl, rw (← q) at h))
 
-    pub lists : (k : ℕ) → Lists (day-in xs) (length out) k → {after : List ℤ} → after ≡ listed-in (day-in xs) out
-        → Gives xs out before (plain-inventory xs out) 0 k after
-    lists k L {after} q =
-        as-plain (written k) (readable (written k) (L .is out refl)) 0 k after
-        (refl, (refl, subst (Written (read (day-in xs)) out) (sym q) (L .rows out)))
-
-pub few : (xs : List ℤ) (room k : ℕ) → Lists (day-in xs) room k → KINDS * count-in xs ≤ CELLS
-unfolding day-in
-few xs room k L = L .few
+    pub lists : (k : ℕ) (after : List ℤ) → Ends (day-in xs) out (written k) after → Gives xs out before (plain-inventory xs out) 0 k after
+    lists k after (q, h) = as-plain (written k) (readable (written k) q) 0 k after (refl, (refl, rw (← q) at h))

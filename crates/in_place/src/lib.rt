@@ -3,18 +3,20 @@
 ghost use mathlib.Core.Path.{_≡_};
 ghost use mathlib.Core.List.{[], _∷_};
 ghost use lib.IntN.{pos};
-ghost use lib.ListN.{length, replicate};
+ghost use lib.ListN.{length};
+ghost use Rattle.numbers.specs.Refusals.{OUT-OF-RANGE};
 ghost use Rattle.point_day.specs.Limits.{USERS, CELLS, TOLERANCE};
 ghost use Rattle.point_day.specs.Calls.{join, line, measure, allot, revise, start-final, stand-in};
 ghost use Rattle.point_day.specs.Struct.{read, padded, rows-of, called};
+ghost use Rattle.allot.specs.Allotted.{Tested as AllotTested};
+ghost use Rattle.revise.specs.Revised.{Tested as ReviseTested};
 ghost use Rattle.stand_in.specs.Rows.{rows-in};
 ghost use Rattle.inventory.specs.Inventory.{Afterwards};
 ghost use Rattle.plain_day.specs.Layout.{day-in};
 ghost use Rattle.plain_day.specs.Plain.{plain, plain-call, plain-fresh};
-ghost use Rattle.in_place.specs.Found.{AllotFound, ReviseFound, StandInFound};
+ghost use Rattle.in_place.specs.Found.{FindsIn};
 ghost use Rattle.in_place.specs.Listing.{plain-inventory, status, row-count};
 use inventory::InventoryAnswer;
-use inventory::cells as inventory_cells;
 use line::LineTest;
 use numbers::OUT_OF_RANGE;
 use plain_day::BALANCE_AT;
@@ -22,9 +24,7 @@ use plain_day::CONSUMPTION_AT;
 use plain_day::LENGTH;
 use plain_day::LOSSES_AT;
 use plain_day::REVISION_AT;
-use plain_day::from_numbers;
 use plain_day::writes;
-use point_day::KINDS;
 use point_day::TOLERANCE;
 use revise::ReviseTest;
 use stand_in::StandInTest;
@@ -45,15 +45,8 @@ pub fn fresh(day: &mut [i64]) -> u8
 pub fn join(day: &mut [i64], user: u16) -> u8
     ensures { λ r. ⌜ plain r [] (now (day .exit)) ≡ plain-call (called (join user)) [] (now (day .entry)) ⌝ }
 {
-    let mut users = point_day::no_users();
-    let mut wholes = point_day::no_amounts();
-    let state = plain_day::test_numbers(day, &mut users, &mut wholes);
-    if !state.taken {
-        return OUT_OF_RANGE;
-    }
-    let allotted = from_numbers::allotted_in(day);
-    let count = from_numbers::count_in(day);
-    let number = join::join_test(state.taken, allotted, count, &users, user);
+    let state = plain_day::test_numbers(day);
+    let number = join::join_test(state, user);
     if number != 0 {
         return number;
     }
@@ -72,24 +65,8 @@ pub fn line(
 ) -> u8
     ensures { λ r. ⌜ plain r (pos (now («losses_added» .exit)) ∷ []) (now (day .exit)) ≡ plain-call (called (line user kind consumption coefficient)) (pos (now («losses_added» .entry)) ∷ []) (now (day .entry)) ⌝ }
 {
-    let mut users = point_day::no_users();
-    let mut wholes = point_day::no_amounts();
-    let state = plain_day::test_numbers(day, &mut users, &mut wholes);
-    if !state.taken {
-        return OUT_OF_RANGE;
-    }
-    let allotted = from_numbers::allotted_in(day);
-    let count = from_numbers::count_in(day);
-    let test = line::line_test(
-        state,
-        allotted,
-        count,
-        &users,
-        user,
-        kind,
-        consumption,
-        coefficient,
-    );
+    let state = plain_day::test_numbers(day);
+    let test = line::line_test(state, user, kind, consumption, coefficient);
     match test {
         LineTest::Refused(number) => number,
         LineTest::Passed(place, added) => {
@@ -104,15 +81,8 @@ pub fn line(
 pub fn measure(day: &mut [i64], emission: u64, downstream: u64) -> u8
     ensures { λ r. ⌜ plain r [] (now (day .exit)) ≡ plain-call (called (measure emission downstream)) [] (now (day .entry)) ⌝ }
 {
-    let mut users = point_day::no_users();
-    let mut wholes = point_day::no_amounts();
-    let state = plain_day::test_numbers(day, &mut users, &mut wholes);
-    if !state.taken {
-        return OUT_OF_RANGE;
-    }
-    let stage = from_numbers::stage_in(day);
-    let allotted = from_numbers::allotted_in(day);
-    let number = measure::measure_test(state.taken, stage, allotted, emission, downstream);
+    let state = plain_day::test_numbers(day);
+    let number = measure::measure_test(state, emission, downstream);
     if number != 0 {
         return number;
     }
@@ -123,24 +93,17 @@ pub fn measure(day: &mut [i64], emission: u64, downstream: u64) -> u8
 // The tests of allot; zeros become the balances.
 fn allot_tests(day: &[i64], cells: &mut [i64]) -> u8
     requires { ⌜ now cells ≡ padded CELLS (pos 0) [] ⌝ }
-    ensures { λ r. ⌜ AllotFound (now (day .entry)) (now (cells .exit)) r ⌝ }
+    ensures { λ r. ⌜ FindsIn (now (day .entry)) (r ≡ OUT-OF-RANGE) (λ d. AllotTested (now (cells .exit)) d r) ⌝ }
 {
-    let mut users = point_day::no_users();
-    let mut wholes = point_day::no_amounts();
-    let state = plain_day::test_numbers(day, &mut users, &mut wholes);
+    let state = plain_day::test_numbers(day);
     if !state.taken {
         return OUT_OF_RANGE;
     }
     allot::allot_test(
         state,
-        from_numbers::allotted_in(day),
-        from_numbers::measurement_in(day),
-        from_numbers::count_in(day),
-        &users,
         &day[CONSUMPTION_AT..LOSSES_AT],
         &day[LOSSES_AT..BALANCE_AT],
         &day[REVISION_AT..LENGTH],
-        &mut wholes,
         cells,
     )
 }
@@ -158,6 +121,19 @@ pub fn allot(day: &mut [i64]) -> u8
     0
 }
 
+// The tests of revise; `column` has the revisions afterwards, if R is assigned.
+fn revise_tests(day: &[i64], column: &mut [i64]) -> ReviseTest
+    requires { ⌜ length (now column) ≡ USERS ⌝ }
+    ensures { λ r. ⌜ FindsIn (now (day .entry)) (r ≡ ReviseTest.Refused OUT-OF-RANGE) (λ d. ReviseTested TOLERANCE d r (now (column .exit))) ⌝ }
+{
+    let state = plain_day::test_numbers(day);
+    if !state.taken {
+        return ReviseTest::Refused(OUT_OF_RANGE);
+    }
+    writes::put(column, 0, &state.wholes);
+    revise::revise_test(state, &day[REVISION_AT..LENGTH], TOLERANCE, column)
+}
+
 // Whether R is within the tolerance, 0 or 1, and R. The status is 0.
 fn give_revision(number: u64, R: i64, within: &mut u64, amount: &mut i64) -> u8
     ensures { λ r. ⌜ (r ≡ 0) × (now (within .exit) ≡ number) × (now (amount .exit) ≡ R) ⌝ }
@@ -165,29 +141,6 @@ fn give_revision(number: u64, R: i64, within: &mut u64, amount: &mut i64) -> u8
     *within = number;
     *amount = R;
     0
-}
-
-// The tests of revise; `column` has the revisions afterwards, if R is assigned.
-fn revise_tests(day: &[i64], column: &mut [i64]) -> ReviseTest
-    requires { ⌜ length (now column) ≡ USERS ⌝ }
-    ensures { λ r. ⌜ ReviseFound (now (day .entry)) r (now (column .exit)) ⌝ }
-{
-    let mut users = point_day::no_users();
-    let state = plain_day::test_numbers(day, &mut users, column);
-    if !state.taken {
-        return ReviseTest::Refused(OUT_OF_RANGE);
-    }
-    revise::revise_test(
-        state,
-        from_numbers::stage_in(day),
-        from_numbers::allotted_in(day),
-        from_numbers::measurement_in(day),
-        from_numbers::count_in(day),
-        &users,
-        &day[REVISION_AT..LENGTH],
-        TOLERANCE,
-        column,
-    )
 }
 
 // Revise; gives 1 if R is within the tolerance, 0 if it is assigned, and R.
@@ -210,50 +163,14 @@ pub fn revise(day: &mut [i64], within: &mut u64, amount: &mut i64) -> u8
 pub fn start_final(day: &mut [i64]) -> u8
     ensures { λ r. ⌜ plain r [] (now (day .exit)) ≡ plain-call (called start-final) [] (now (day .entry)) ⌝ }
 {
-    let mut users = point_day::no_users();
-    let mut wholes = point_day::no_amounts();
-    let state = plain_day::test_numbers(day, &mut users, &mut wholes);
-    if !state.taken {
-        return OUT_OF_RANGE;
-    }
-    let stage = from_numbers::stage_in(day);
-    let number = start_final::start_final_test(state.taken, stage, from_numbers::allotted_in(day));
+    let state = plain_day::test_numbers(day);
+    let number = start_final::start_final_test(state);
     if number != 0 {
         return number;
     }
+    let stage = state.stage;
     writes::start(day, start_final::next_stage(stage));
     0
-}
-
-// The tests of a stand-in with its rows in three lists; zeros become the shares of the row's users.
-fn stand_in_tests<'a>(
-    day: &'a [i64],
-    counts: &'a [usize],
-    joining: &'a [u16],
-    amounts: &'a [i64],
-    shares: &mut [i64],
-) -> StandInTest
-    requires { ⌜ now shares ≡ replicate USERS (pos 0) ⌝ }
-    ensures { λ r. ⌜ StandInFound (now (counts .entry)) (now (joining .entry)) (now (amounts .entry)) (now (day .entry)) r (now (shares .exit)) ⌝ }
-{
-    let mut users = point_day::no_users();
-    let mut wholes = point_day::no_amounts();
-    let state = plain_day::test_numbers(day, &mut users, &mut wholes);
-    if !state.taken {
-        return StandInTest::Refused(OUT_OF_RANGE);
-    }
-    stand_in::stand_in_test(
-        state.taken,
-        from_numbers::stage_in(day),
-        from_numbers::allotted_in(day),
-        from_numbers::measurement_in(day),
-        from_numbers::count_in(day),
-        counts,
-        joining,
-        amounts,
-        TOLERANCE,
-        shares,
-    )
 }
 
 // Stand-in, with its rows in three lists; gives the rows looked at.
@@ -266,8 +183,9 @@ pub fn stand_in<'a>(
 ) -> u8
     ensures { λ r. ⌜ plain r (pos (now («rows_looked_at» .exit)) ∷ []) (now (day .exit)) ≡ plain-call (called (stand-in TOLERANCE (rows-of (rows-in (now (counts .entry)) (now (users .entry)) (now (amounts .entry)))))) (pos (now («rows_looked_at» .entry)) ∷ []) (now (day .entry)) ⌝ }
 {
+    let state = plain_day::test_numbers(day);
     let mut shares = point_day::no_amounts();
-    let test = stand_in_tests(day, counts, users, amounts, &mut shares);
+    let test = stand_in::stand_in_test(state, counts, users, amounts, TOLERANCE, &mut shares);
     match test {
         StandInTest::Refused(number) => number,
         StandInTest::Passed(row) => {
@@ -284,29 +202,20 @@ pub fn inventory<'a>(day: &'a [i64], out: &mut [i64], rows: &mut u64) -> u8
     ensures { λ r. ⌜ now (rows .exit) ≡ row-count (plain-inventory (now (day .entry)) (now (out .entry))) (now (rows .entry)) ⌝ }
     ensures { λ r. ⌜ Afterwards (plain-inventory (now (day .entry)) (now (out .entry))) (read (day-in (now (day .entry)))) (now (out .entry)) (now (out .exit)) ⌝ }
 {
-    let mut users = point_day::no_users();
-    let mut wholes = point_day::no_amounts();
-    let state = plain_day::test_numbers(day, &mut users, &mut wholes);
+    let state = plain_day::test_numbers(day);
     if !state.taken {
         return OUT_OF_RANGE;
     }
-    let n = from_numbers::count_in(day);
-    let consumption = &day[CONSUMPTION_AT..LOSSES_AT];
-    let losses = &day[LOSSES_AT..BALANCE_AT];
-    let balance = &day[BALANCE_AT..REVISION_AT];
-    let test = inventory::inventory_test(
-        state.taken,
-        from_numbers::allotted_in(day),
-        n,
-        consumption,
-        losses,
-        balance,
-        out.len(),
+    let answer = inventory::list_rows(
+        state,
+        &day[CONSUMPTION_AT..LOSSES_AT],
+        &day[LOSSES_AT..BALANCE_AT],
+        &day[BALANCE_AT..REVISION_AT],
+        out,
     );
-    match test {
+    match answer {
         InventoryAnswer::Refused(number) => number,
         InventoryAnswer::Rows(count) => {
-            inventory_cells::write_rows(&users, consumption, losses, balance, KINDS * n, out);
             *rows = count as u64;
             0
         }

@@ -11,7 +11,7 @@ use Rattle.numbers.specs.Sums.{atZ}
 use Rattle.numbers.specs.Lists.{every, flat}
 use Rattle.numbers.specs.Amounts.{is-negative}
 use Rattle.numbers.proofs.Lists.{both-fst, both-snd}
-use Rattle.point_day.specs.Limits.{KINDS, CELLS}
+use Rattle.point_day.specs.Limits.{KINDS}
 use Rattle.point_day.specs.Calls.{Verdict, verdict}
 use Rattle.point_day.specs.Struct.{read, none-below, taken}
 use Rattle.point_day.specs.declared.PointDay.{PointDay}
@@ -19,9 +19,8 @@ use Rattle.point_day.proofs.Taken.{taken-facts}
 use Rattle.point_day.proofs.Called.{test-holds, test-passed, none-left}
 use Rattle.inventory.specs.Row.{ROW}
 use Rattle.inventory.specs.Cells.{cells}
-use Rattle.inventory.specs.Inventory.{five, rows, Answer, written, tests, by, inventory, Reordered, none, keep, Written, Afterwards}
-use Rattle.inventory.specs.Listed.{row-total, listed-in, Lists, Tested}
-use Rattle.inventory.specs.declared.InventoryAnswer.the-variants.{Refused}
+use Rattle.inventory.specs.Inventory.{five, rows, Answer, refused, written, tests, by, inventory, Reordered, none, keep, Afterwards}
+use Rattle.inventory.specs.Listed.{row-total, listed-in, Ends}
 use Rattle.inventory.proofs.Listing.{listed, listed-count}
 
 -- a list is an order of its own
@@ -35,24 +34,24 @@ not-negative [] e i = refl
 not-negative (z ∷ zs) e zero = not-true (is-negative z) (both-fst (not (is-negative z)) _ e)
 not-negative (z ∷ zs) e (suc i) = not-negative zs (both-snd (not (is-negative z)) _ e) i
 
-module _ (d : PointDay) (room : ℕ) where
-  pub not-taken : taken d ≡ false → Tested d room (Refused 2)
+module _ (d : PointDay) (buffer : List ℤ) where
+  ends : (after : List ℤ) (a : Answer) → a ≡ inventory d buffer → Afterwards a (read d) buffer after → Ends d buffer a after
+  ends after a e h = (e, subst (λ x. Afterwards x (read d) buffer after) e h)
+
+  pub not-taken : taken d ≡ false → Ends d buffer (refused 2) buffer
   unfolding inventory
-  not-taken e = λ buffer l. rw e
+  not-taken e = ends buffer (refused 2) (rw e) refl
 
   module _ (t : taken d ≡ true) where
-    by-verdict : (buffer : List ℤ) {v : Verdict} → verdict (tests (read d) buffer) ≡ v → by v (length (rows (read d))) ≡ inventory d buffer
+    by-verdict : {v : Verdict} → verdict (tests (read d) buffer) ≡ v → by v (length (rows (read d))) ≡ inventory d buffer
     unfolding inventory
-    by-verdict buffer e = rw (t, e)
+    by-verdict e = rw (t, e)
 
-    pub not-allotted : d .allotted ≡ false → Tested d room (Refused 1)
+    pub not-allotted : d .allotted ≡ false → Ends d buffer (refused 1) buffer
     unfolding tests read
-    not-allotted e = λ buffer l. by-verdict buffer (test-holds 1 _ _ (ap not e))
+    not-allotted e = ends buffer (refused 1) (by-verdict (test-holds 1 _ _ (ap not e))) refl
 
-    -- the cells of the users, how many there are, and their rows
-    pub cells-few : KINDS * d .count ≤ CELLS
-    cells-few = omega (arith, taken-facts d t .few)
-
+    -- the rows of the users' cells
     counted : length (rows (read d)) ≡ row-total d
     counted = listed-count d (not-negative (d .consumption) (taken-facts d t .consumption)) (not-negative (d .losses) (taken-facts d t .losses))
 
@@ -60,36 +59,19 @@ module _ (d : PointDay) (room : ℕ) where
     numbers-are = listed d (not-negative (d .consumption) (taken-facts d t .consumption)) (not-negative (d .losses) (taken-facts d t .losses))
 
     module _ (a : d .allotted ≡ true) where
-      pub short : room < ROW * row-total d → Tested d room (Refused 14)
+      pub short : length buffer < ROW * row-total d → Ends d buffer (refused 14) buffer
       unfolding tests read
-      short l = λ buffer e.
-          by-verdict buffer (test-passed 1 _ _ (ap not a) (test-holds 14 _ _ (lt-ltb (length buffer) (ROW * length (rows (read d))) (omega (arith, counted)))))
+      short l =
+          ends buffer (refused 14) (by-verdict (test-passed 1 _ _ (ap not a) (test-holds 14 _ _ (lt-ltb (length buffer) (ROW * length (rows (read d))) (omega (arith, counted)))))) refl
 
-      pub lists : ROW * row-total d ≤ room → (count : ℕ) → count ≡ row-total d → Lists d room count
+      pub lists : ROW * row-total d ≤ length buffer → (count : ℕ) → count ≡ row-total d → (after : List ℤ) → after ≡ listed-in d buffer → Ends d buffer (written count) after
       unfolding tests read
-      lists l count k = record {
-        is = λ buffer e.
-            ap written (k ∙ sym counted)
-            ∙ by-verdict buffer (test-passed 1 _ _ (ap not a) (test-passed 14 _ _ (le-ltb (length buffer) (ROW * length (rows (read d))) (omega (arith, counted))) none-left));
-        rows = λ buffer. record {
-          listed = rows (read d);
-          each-once = unchanged (rows (read d));
-          buffer = sym (ap₂ (λ s m. s ++ drop (ROW * m) buffer) numbers-are counted);
-        };
-        taken = t;
-        few = cells-few;
-        fits = l;
-      }
-
--- ---- what the tests found, done
-
-module _ (d : PointDay) (buffer after : List ℤ) where
-  -- an answer and the buffer afterwards
-  abbrev pub Ends : Answer → Type 0
-  Ends a = (a ≡ inventory d buffer) × Afterwards (inventory d buffer) (read d) buffer after
-
-  pub ends : (a : Answer) → a ≡ inventory d buffer → Afterwards a (read d) buffer after → Ends a
-  ends a e h = (e, subst (λ x. Afterwards x (read d) buffer after) e h)
-
-  pub all-written : (room count : ℕ) → Lists d room count → length buffer ≡ room → after ≡ listed-in d buffer → Ends (written count)
-  all-written room count L l e = ends (written count) (L .is buffer l) (subst (Written (read d) buffer) (sym e) (L .rows buffer))
+      lists l count k after e =
+          ends after (written count)
+          (ap written (k ∙ sym counted)
+          ∙ by-verdict (test-passed 1 _ _ (ap not a) (test-passed 14 _ _ (le-ltb (length buffer) (ROW * length (rows (read d))) (omega (arith, counted))) none-left)))
+          (record {
+            listed = rows (read d);
+            each-once = unchanged (rows (read d));
+            buffer = e ∙ sym (ap₂ (λ s m. s ++ drop (ROW * m) buffer) numbers-are counted);
+          })

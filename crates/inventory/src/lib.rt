@@ -3,12 +3,19 @@ pub mod cells;
 pub mod row;
 
 ghost use mathlib.Core.Path.{_≡_};
+ghost use mathlib.Core.Bool.{true};
+ghost use Prim.Native.Nat.{_≤_};
+ghost use lib.ListN.{length};
+ghost use Rattle.numbers.specs.Refusals.{OUT-OF-RANGE};
+ghost use Rattle.point_day.specs.Limits.{USERS, CELLS};
 ghost use Rattle.point_day.specs.Struct.{read};
+ghost use Rattle.taken.specs.Tested.{Finds};
 ghost use Rattle.inventory.specs.Inventory.{inventory, answer-of, Afterwards};
-ghost use Rattle.inventory.specs.Listed.{Tested, Rest, with-rest};
+ghost use Rattle.inventory.specs.Listed.{Ends};
 use point_day::KINDS;
 use point_day::PointDay;
 use row::ROW;
+use taken::StateTest;
 
 // The number of a refusal, or the count of rows.
 pub enum InventoryAnswer {
@@ -16,29 +23,29 @@ pub enum InventoryAnswer {
     Rows(usize),
 }
 
-// The tests of an inventory into a buffer of so many numbers, on a point-day with these parts, taken or not.
-pub fn inventory_test<'a>(
-    is_taken: bool,
-    allotted: bool,
-    n: usize,
+// The inventory of a point-day with these cells, of which `state` is the test, into a lent buffer.
+pub fn list_rows<'a>(
+    state: StateTest,
     consumption: &'a [i64],
     losses: &'a [i64],
     balance: &'a [i64],
-    room: usize,
+    out: &mut [i64],
 ) -> InventoryAnswer
-    requires { ⌜ Rest allotted n (now consumption) (now losses) (now balance) «is_taken» ⌝ }
-    ensures { λ r. ⌜ ((x : Rest allotted n (now (consumption .entry)) (now (losses .entry)) (now (balance .entry)) «is_taken») → Tested (with-rest x) room r) ⌝ }
+    requires { ⌜ (state .taken ≡ true → state .count ≤ USERS) × (length (now consumption) ≡ CELLS) × (length (now losses) ≡ CELLS) × (length (now balance) ≡ CELLS) ⌝ }
+    ensures { λ r. ⌜ Finds state ((r ≡ InventoryAnswer.Refused OUT-OF-RANGE) × (now (out .exit) ≡ now (out .entry))) (λ d. d .consumption ≡ now (consumption .entry) → d .losses ≡ now (losses .entry) → d .balance ≡ now (balance .entry) → Ends d (now (out .entry)) (answer-of r) (now (out .exit))) ⌝ }
 {
-    if !is_taken {
+    if !state.taken {
         return InventoryAnswer::Refused(numbers::OUT_OF_RANGE);
     }
-    if !allotted {
+    if !state.allotted {
         return InventoryAnswer::Refused(numbers::WRONG_STAGE);
     }
-    let rows = cells::count_rows(consumption, losses, balance, KINDS * n);
-    if room < ROW * rows {
+    let n = KINDS * state.count;
+    let rows = cells::count_rows(consumption, losses, balance, n);
+    if out.len() < ROW * rows {
         return InventoryAnswer::Refused(numbers::SHORT_BUFFER);
     }
+    cells::write_rows(&state.users, consumption, losses, balance, n, out);
     InventoryAnswer::Rows(rows)
 }
 
@@ -47,28 +54,6 @@ pub fn inventory(day: PointDay, out: &mut [i64]) -> InventoryAnswer
     ensures { λ r. ⌜ answer-of r ≡ inventory day (now (out .entry)) ⌝ }
     ensures { λ r. ⌜ Afterwards (inventory day (now (out .entry))) (read day) (now (out .entry)) (now (out .exit)) ⌝ }
 {
-    let is_taken = taken::is_taken(day);
-    let test = inventory_test(
-        is_taken,
-        day.allotted,
-        day.count,
-        &day.consumption,
-        &day.losses,
-        &day.balance,
-        out.len(),
-    );
-    match test {
-        InventoryAnswer::Refused(number) => InventoryAnswer::Refused(number),
-        InventoryAnswer::Rows(count) => {
-            cells::write_rows(
-                &day.users,
-                &day.consumption,
-                &day.losses,
-                &day.balance,
-                KINDS * day.count,
-                out,
-            );
-            InventoryAnswer::Rows(count)
-        }
-    }
+    let state = taken::test_day(day);
+    list_rows(state, &day.consumption, &day.losses, &day.balance, out)
 }

@@ -5,9 +5,11 @@ use mathlib.Core.List.{List, [], _∷_, map}
 use Prim.Native.Nat.{ℕ, zero, suc, _+_, _-_, _*_, _≤_, _<_}
 use native.Mathlib.Omega.{arith}
 use lib.Dec.{ltb}
-use lib.IntN.{pos}
+use lib.IntN.{pos, natAbs}
 use lib.ListN.{length, getD, take, set, length-map, length-set, List·getD-map}
 use lib.Seq.{getD-take, map-set-same}
+use mir.Syntax.{w64}
+use mir.Val.{ofZ, toZ}
 use borrow.Author.Tests.{eq-eqb, ne-eqb, not-true, lt-ltb, le-ltb}
 use Rattle.numbers.specs.Sums.{pick, at}
 use Rattle.numbers.specs.Lists.{has, distinct, flat}
@@ -24,10 +26,12 @@ use Rattle.point_day.proofs.Arrays.{Full, nobody, length-flat}
 use Rattle.point_day.proofs.Back.{read-full, read-count, read-numbers, laid-read}
 use Rattle.point_day.proofs.Steps.{for-nobody}
 use Rattle.point_day.proofs.Called.{called-refused, called-accepted, test-holds, test-passed, none-left}
-use Rattle.state.specs.Places.{Placed}
-use Rattle.line.specs.Lined.{with-cells, lined-at, Lines}
+use Rattle.state.specs.Places.{Placed, more}
+use Rattle.taken.specs.Tested.{Known}
+use Rattle.taken.specs.declared.StateTest.{StateTest}
+use Rattle.taken.proofs.Facts.{sum-kept, entering-sum}
+use Rattle.line.specs.Lined.{with-cells, lined-at, Lines, Stands}
 use Rattle.line.specs.Cell.{line-losses, past-limit, place}
-use Rattle.state.specs.Places.{more}
 use Rattle.line.proofs.cells.Ranges.{ranges}
 use Rattle.point_day.proofs.Padding.{padded-set, map-set, flat-set, at-flat}
 
@@ -158,3 +162,18 @@ module _ (n kind c k : ℕ) (d : PointDay) (z : Sized d) (ok : taken d ≡ true)
                 amount = r .consumption;
                 added = omega arith;
               }
+
+-- ---- the test of the state
+
+-- an entering point-day, as its test found it; the sum of its whole amounts as the code holds it
+pub stands : {d : PointDay} {s : StateTest} → Known d s → s .allotted ≡ false → Stands (s .users) (s .count) (natAbs (toZ w64 (ofZ w64 (s .sum)))) d
+stands {d} k e =
+    let a = k .allotted ∙ e in
+    record {
+      sized = k .sized;
+      is-taken = k .is-taken;
+      entering = a;
+      users = k .users;
+      joined = k .count;
+      sum = ap natAbs (sum-kept d (k .sized) (k .is-taken) (k .sum) ∙ entering-sum d (k .sized) (k .is-taken) a);
+    }

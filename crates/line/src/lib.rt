@@ -5,16 +5,16 @@ ghost use mathlib.Core.Path.{_≡_};
 ghost use mathlib.Core.Bool.{true};
 ghost use mathlib.Core.List.{List};
 ghost use Prim.Native.Nat.{ℕ, _≤_, _<_};
-ghost use lib.ListN.{length};
 ghost use Rattle.numbers.specs.Sums.{atZ};
 ghost use Rattle.numbers.specs.Amounts.{Within};
+ghost use Rattle.numbers.specs.Refusals.{OUT-OF-RANGE};
 ghost use Rattle.point_day.specs.Limits.{USERS, CELLS, LIMIT};
 ghost use Rattle.point_day.specs.Calls.{line};
 ghost use Rattle.point_day.specs.Answers.{answer-of};
 ghost use Rattle.point_day.specs.Struct.{sum-right, outcome, called};
 ghost use Rattle.point_day.specs.declared.PointDay.{PointDay};
 ghost use Rattle.state.specs.Places.{Placed, more};
-ghost use Rattle.taken.specs.Tested.{StateOf};
+ghost use Rattle.taken.specs.Tested.{Finds};
 ghost use Rattle.line.specs.Lined.{with-cells, Tested, Stands};
 use point_day::Answer;
 use point_day::KINDS;
@@ -56,28 +56,19 @@ pub fn slot_test(
     LineTest::Passed(KINDS * slot + (kind as usize - 1), added)
 }
 
-// The tests of a line on a point-day with these parts, of which `state` is the test. An entering point-day has whole amounts of consumption
-// and losses alone.
-pub fn line_test(
-    state: StateTest,
-    allotted: bool,
-    count: usize,
-    users: &[u16],
-    user: u16,
-    kind: u8,
-    amount: u64,
-    coefficient: u64,
-) -> LineTest
-    requires { ⌜ (state .taken ≡ true → (count ≤ USERS) × (count ≤ length (now users)) × (sum-right (state .sum) ≡ true)) ⌝ }
-    ensures { λ r. ⌜ ((d : PointDay) → StateOf d state → d .allotted ≡ allotted → d .count ≡ count → d .users ≡ now (users .entry) → Tested user kind amount coefficient d r) ⌝ }
+// The tests of a line on a point-day, of which `state` is the test. While entering, whole amounts are consumption and losses alone.
+pub fn line_test(state: StateTest, user: u16, kind: u8, amount: u64, coefficient: u64) -> LineTest
+    requires { ⌜ (state .taken ≡ true → (state .count ≤ USERS) × (sum-right (state .sum) ≡ true)) ⌝ }
+    ensures { λ r. ⌜ Finds state (r ≡ LineTest.Refused OUT-OF-RANGE) (λ d. Tested user kind amount coefficient d r) ⌝ }
 {
     if !state.taken {
         return LineTest::Refused(numbers::OUT_OF_RANGE);
     }
-    if allotted {
+    if state.allotted {
         return LineTest::Refused(numbers::WRONG_STAGE);
     }
-    let slot = state::slot_of(users, count, user);
+    let count = state.count;
+    let slot = state::slot_of(&state.users, count, user);
     slot_test(
         slot,
         count,
@@ -113,18 +104,8 @@ fn line_at(day: PointDay, place: usize, amount: u64, added: u64) -> Outcome
 pub fn line(day: PointDay, user: u16, kind: u8, consumption: u64, coefficient: u64) -> Outcome
     ensures { λ r. ⌜ outcome (answer-of (r .answer)) (r .day) ≡ called (line user kind consumption coefficient) day ⌝ }
 {
-    let mut wholes = point_day::no_amounts();
-    let state = taken::test_day(day, &mut wholes);
-    let test = line_test(
-        state,
-        day.allotted,
-        day.count,
-        &day.users,
-        user,
-        kind,
-        consumption,
-        coefficient,
-    );
+    let state = taken::test_day(day);
+    let test = line_test(state, user, kind, consumption, coefficient);
     match test {
         LineTest::Refused(number) => point_day::refuse(number, day),
         LineTest::Passed(place, added) => line_at(day, place, consumption, added),

@@ -7,8 +7,6 @@ use native.Mathlib.Omega.{arith}
 use lib.IntN.{ℤ, pos, negsuc, natAbs, _+ℤ_}
 use lib.ListN.{length, getD, set, length-set, length-map, List·getD-map}
 use lib.Dec.{eqb}
-use mir.Syntax.{w64}
-use mir.Val.{ofZ, toZ}
 use borrow.Author.Tests.{not-true, eqb-true, ne-eqb}
 use Rattle.numbers.specs.Sums.{pick, table, atZ, total}
 use Rattle.numbers.specs.Amounts.{Within, is-negative}
@@ -19,21 +17,21 @@ use Rattle.point_day.specs.Limits.{USERS, LIMIT}
 use Rattle.point_day.specs.Fields.{set-consumption}
 use Rattle.point_day.specs.Answers.{refused, losses-added}
 use Rattle.point_day.specs.Calls as calls
-use Rattle.point_day.specs.Day.{all-offtake, all-whole}
+use Rattle.point_day.specs.Day.{all-offtake}
 use Rattle.point_day.specs.Struct.{Sized, read, none-below, taken, outcome, called}
 use Rattle.point_day.specs.declared.PointDay.{PointDay}
 use Rattle.point_day.proofs.Taken.{taken-facts}
 use Rattle.point_day.proofs.Padding.{map-set}
 use Rattle.state.proofs.Cells.{low-from}
 use Rattle.state.proofs.Totals.{offtake-is}
-use Rattle.taken.proofs.Facts.{Facts, facts, sum-kept, entering-sum}
+use Rattle.taken.proofs.Facts.{Facts, facts}
 use Rattle.state.specs.Places.{more}
 use Rattle.line.specs.Lined.{with-cells, Lines, Stands}
 use Rattle.line.proofs.Lining.{line-1}
 use Rattle.day_book.specs.Run.{line}
 use Rattle.file_lines.proofs.Taking.{outcome-taken}
 use Rattle.file_lines.proofs.Leading.{table-rest, table-next}
-use Rattle.plain_day.specs.Layout.{CONSUMPTION-AT, LOSSES-AT, is-readable, allotted-in, count-in, users-in, day-in, stored}
+use Rattle.plain_day.specs.Layout.{CONSUMPTION-AT, LOSSES-AT, is-readable, day-in, stored}
 use Rattle.plain_day.specs.Lines.{Line, Entered, entered, one-more, line-in, lines-in, line-calls, same-lengths, is-taken, plain-lines}
 use Rattle.plain_day.specs.Plain.{plain}
 use Rattle.plain_day.proofs.Again.{again, day-sized}
@@ -210,20 +208,6 @@ module _ (f : ℕ → Line) (xs : List ℤ) (us : List ℕ) (count : ℕ) where
 
 -- ---- many lines
 
-module _ (xs : List ℤ) (e : is-readable xs ≡ true) where
-  module _ (t : taken (day-in xs) ≡ true) (a : allotted-in xs ≡ false) where
-    entering-in : day-in xs .allotted ≡ false
-    unfolding day-in
-    entering-in = a
-
-    -- the sum of whole amounts, as the code holds it
-    pub sum-held : {y : ℤ} → y ≡ all-whole (read (day-in xs) .users) → toZ w64 (ofZ w64 y) ≡ pos (all-offtake (read (day-in xs) .users))
-    sum-held q = sum-kept (day-in xs) (day-sized xs e) t q ∙ entering-sum (day-in xs) (day-sized xs e) t entering-in
-
-    pub at-start : {us : List ℕ} {count sum : ℕ} → us ≡ users-in xs → count ≡ count-in xs → sum ≡ all-offtake (read (day-in xs) .users) → Stands us count sum (day-in xs)
-    unfolding day-in
-    at-start u k q = record { sized = day-sized xs e; is-taken = t; entering = a; users = sym u; joined = sym k; sum = q }
-
 -- a point-day that is allotted: the first line is refused
 first-refused : (f : ℕ → Line) (n : ℕ) (d : PointDay) → Sized d → taken d ≡ true → d .allotted ≡ true → line-calls (table f n) d ≡ entered (pick (eqb n 0) 0 1) 0 0 d
 unfolding table line-calls
@@ -249,8 +233,8 @@ module _ (ns ks cs ps : List ℕ) (xs : List ℤ) where
         unfolding plain-lines
         lines-done = rw (s, e, t) refl
 
-        pub not-entering : allotted-in xs ≡ true → plain (pick (eqb (length ns) 0) 0 1) (pos 0 ∷ pos 0 ∷ []) xs ≡ plain-lines ns ks cs ps xs
+        pub not-entering : day-in xs .allotted ≡ true → plain (pick (eqb (length ns) 0) 0 1) (pos 0 ∷ pos 0 ∷ []) xs ≡ plain-lines ns ks cs ps xs
         not-entering a =
             ap (λ t. plain (pick (eqb (length ns) 0) 0 1) (pos 0 ∷ pos 0 ∷ []) t) (sym (again xs e))
-            ∙ sym (ap (λ r. in-numbers r xs) (first-refused (line-in ns ks cs ps) (length ns) (day-in xs) (day-sized xs e) t (unfold day-in in a)))
+            ∙ sym (ap (λ r. in-numbers r xs) (first-refused (line-in ns ks cs ps) (length ns) (day-in xs) (day-sized xs e) t a))
             ∙ lines-done

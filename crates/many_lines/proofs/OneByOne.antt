@@ -17,8 +17,8 @@ use Rattle.numbers.proofs.Sums.{lt-or-ge}
 use Rattle.point_day.specs.Limits.{USERS, LIMIT, LAST-NUMBER}
 use Rattle.point_day.specs.Answers.{refused, losses-added}
 use Rattle.point_day.specs.Calls as calls
-use Rattle.point_day.specs.Day.{is-measured}
-use Rattle.point_day.specs.Struct.{Outcome, taken, outcome, called}
+use Rattle.point_day.specs.Day.{all-offtake, is-measured}
+use Rattle.point_day.specs.Struct.{Outcome, read, taken, outcome, called}
 use Rattle.point_day.specs.declared.PointDay.{PointDay}
 use Rattle.point_day.proofs.Taken.{taken-facts}
 use Rattle.point_day.proofs.Called.{called-untaken}
@@ -35,7 +35,7 @@ use Rattle.plain_day.proofs.Ranges.{up-to-le, laid-users}
 use Rattle.plain_day.proofs.Again.{again, head-laid, day-sized}
 use Rattle.plain_day.proofs.ReadBack.{Stores, call-stored, stored-twice}
 use Rattle.many_lines.specs.OneByOne.{Made, made, one-before, line-call, one-by-one, answered, Lines-one-by-one}
-use Rattle.many_lines.proofs.Lining.{stands-after, stop, go-on, at-start, lines-done, no-day}
+use Rattle.many_lines.proofs.Lining.{stands-after, stop, go-on, lines-done, no-day}
 
 -- ---- a line on a point-day that is entering: refused by a number, or added
 
@@ -163,6 +163,10 @@ module _ (xs : List ℤ) (e : is-readable xs ≡ true) where
   read-call l o = rw (e, ← o) refl
 
   module _ (t : taken (day-in xs) ≡ true) where
+    at-start : allotted-in xs ≡ false → Stands (users-in xs) (count-in xs) (all-offtake (read (day-in xs) .users)) (day-in xs)
+    unfolding day-in
+    at-start a = record { sized = day-sized xs e; is-taken = t; entering = a; users = refl; joined = refl; sum = refl }
+
     by-stage : (ls : List Line) (b : Bool) → allotted-in xs ≡ b → one-by-one ls xs ≡ in-place xs (line-calls ls (day-in xs))
     unfolding one-by-one line-calls
     by-stage [] b a = ap (made 0 0 0) (sym (again xs e))
@@ -171,7 +175,7 @@ module _ (xs : List ℤ) (e : is-readable xs ≡ true) where
         no-more-lines l ls xs refl (read-call l o) ∙ ap (made 1 0 0) (sym (again xs e)) ∙ sym (ap (in-place xs) (stop l ls (day-in xs) o))
     by-stage (l ∷ ls) false a =
         ap (one-by-one (l ∷ ls)) (sym (again xs e))
-        ∙ while-entering (l ∷ ls) (at-start xs e t a {us = users-in xs} {count = count-in xs} refl refl refl)
+        ∙ while-entering (l ∷ ls) (at-start a)
 
     on-numbers : (ls : List Line) → one-by-one ls xs ≡ in-place xs (line-calls ls (day-in xs))
     on-numbers ls = by-stage ls (allotted-in xs) refl

@@ -17,7 +17,6 @@ ghost use Rattle.plain_day.specs.Lines.{lines-in, line-calls, same-lengths, pla
 ghost use Rattle.many_lines.specs.Many.{HINTS, in-numbers};
 use line::LineTest;
 use numbers::OUT_OF_RANGE;
-use plain_day::from_numbers;
 use plain_day::writes;
 
 // ---- A user's slot
@@ -171,21 +170,18 @@ pub fn lines<'a>(
     if !same_lengths(users, kinds, consumptions, coefficients) {
         return OUT_OF_RANGE;
     }
-    let mut slots = point_day::no_users();
-    let mut wholes = point_day::no_amounts();
-    let state = plain_day::test_numbers(day, &mut slots, &mut wholes);
+    let state = plain_day::test_numbers(day);
     if !state.taken {
         return OUT_OF_RANGE;
     }
-    if from_numbers::allotted_in(day) {
+    if state.allotted {
         return refuse_first(users.len());
     }
-    let count = from_numbers::count_in(day);
     let sum = state.sum as u64;
     let entered = enter_lines(
         day,
-        &slots,
-        count,
+        &state.users,
+        state.count,
         sum,
         users,
         kinds,

@@ -2,20 +2,21 @@
 ghost use mathlib.Core.Path.{_≡_};
 ghost use mathlib.Core.Bool.{not};
 ghost use Rattle.numbers.specs.Lists.{both};
+ghost use Rattle.numbers.specs.Refusals.{OUT-OF-RANGE};
 ghost use Rattle.point_day.specs.Day.{provisional};
 ghost use Rattle.point_day.specs.Calls.{measure};
 ghost use Rattle.point_day.specs.Answers.{answer-of};
 ghost use Rattle.point_day.specs.Struct.{outcome, called};
 ghost use Rattle.point_day.specs.declared.Measurement.the-variants.{Measured};
-ghost use Rattle.point_day.specs.declared.PointDay.{PointDay};
 ghost use Rattle.point_day.specs.Fields.{set-measurement};
-ghost use Rattle.taken.specs.Tested.{IsTaken};
+ghost use Rattle.taken.specs.Tested.{Finds};
 ghost use Rattle.measure.specs.Measuring.{Tested};
 use point_day::Answer;
 use point_day::Measurement;
 use point_day::Outcome;
 use point_day::PointDay;
 use point_day::Stage;
+use taken::StateTest;
 
 // Whether the stage doesn't take a measurement: allotted, and not provisional.
 fn measured_for_good(allotted: bool, stage: Stage) -> bool
@@ -27,20 +28,15 @@ fn measured_for_good(allotted: bool, stage: Stage) -> bool
     false
 }
 
-// The tests of a measure on a point-day with these parts, taken or not: 0, or the number of the refusal.
-pub fn measure_test(
-    is_taken: bool,
-    stage: Stage,
-    allotted: bool,
-    emission: u64,
-    downstream: u64,
-) -> u8
-    ensures { λ r. ⌜ ((d : PointDay) → IsTaken d «is_taken» → d .stage ≡ stage → d .allotted ≡ allotted → Tested emission downstream d r) ⌝ }
+// The tests of a measure on a point-day, of which `state` is the test: 0, or the number of the refusal.
+pub fn measure_test(state: StateTest, emission: u64, downstream: u64) -> u8
+    ensures { λ r. ⌜ Finds state (r ≡ OUT-OF-RANGE) (λ d. Tested emission downstream d r) ⌝ }
 {
-    if !is_taken {
+    if !state.taken {
         return numbers::OUT_OF_RANGE;
     }
-    if measured_for_good(allotted, stage) {
+    let stage = state.stage;
+    if measured_for_good(state.allotted, stage) {
         return numbers::WRONG_STAGE;
     }
     if !state::emission_right(emission, downstream) {
@@ -62,9 +58,8 @@ fn remeasure(day: PointDay, emission: u64, downstream: u64) -> PointDay
 pub fn measure(day: PointDay, emission: u64, downstream: u64) -> Outcome
     ensures { λ r. ⌜ outcome (answer-of (r .answer)) (r .day) ≡ called (measure emission downstream) day ⌝ }
 {
-    let stage = day.stage;
-    let is_taken = taken::is_taken(day);
-    let number = measure_test(is_taken, stage, day.allotted, emission, downstream);
+    let state = taken::test_day(day);
+    let number = measure_test(state, emission, downstream);
     if number != 0 {
         return point_day::refuse(number, day);
     }

@@ -7,7 +7,7 @@ use Prim.Native.Nat.{ℕ, zero, suc, _+_, _-_, _*_, _^_, _≤_, _<_}
 use native.Mathlib.Omega.{arith}
 use native.Mathlib.Nat.{suc-mul, add-mul, one-mul}
 use lib.Dec.{T, ltb, leb, eqb}
-use lib.IntN.{ℤ, pos, negsuc, negℤ, natAbs, subℕ, _+ℤ_, _-ℤ_, +ℤ-assoc, +ℤ-comm, +ℤ-idl, -ℤ-+ℤ-cancel}
+use lib.IntN.{ℤ, pos, negsuc, negℤ, natAbs, subℕ, _+ℤ_, _-ℤ_, +ℤ-assoc, +ℤ-comm, -ℤ-+ℤ-cancel}
 use lib.Signed.{mag, ltZ, leZ}
 use borrow.Author.Tests.{ltb-true, ltb-false, lt-ltb, le-ltb, leb-true, le-leb, ne-eqb}
 use mir.Syntax.{w64}
@@ -142,13 +142,7 @@ module _ (m : ℕ) (f : ℕ → ℤ) (i : ℕ) (h : (j : ℕ) → j < i + 1 → 
 
 -- ---- equal bits
 
-pub same-bits : {x y : ℤ} → SFits w64 x → SFits w64 y → ofZ w64 x ≡ ofZ w64 y → x ≡ y
-same-bits h k e = sym (toZ-ofZ h) ∙ ap (toZ w64) e ∙ toZ-ofZ k
-
 -- ---- a minus
-
-pub minus-is : (z : ℤ) → pos 0 -ℤ z ≡ negℤ z
-minus-is z = +ℤ-idl (negℤ z)
 
 -- ---- a test that is known to be passed
 
@@ -194,15 +188,6 @@ pub sum-nonneg : (zs : List ℤ) → All NonNeg zs → totalZ zs ≡ pos (total 
 unfolding totalZ total
 sum-nonneg [] h = refl
 sum-nonneg (z ∷ zs) h = ap₂ _+ℤ_ (pos-size z (h .0)) (sum-nonneg zs (h .1))
-
--- each is at most their sum
-pub all-le-sum : (zs : List ℤ) → All (λ z. natAbs z ≤ total (map natAbs zs)) zs
-unfolding total
-all-le-sum zs = go zs (total (map natAbs zs)) (omega arith)
-  where
-    go : (zs : List ℤ) (m : ℕ) → total (map natAbs zs) ≤ m → All (λ z. natAbs z ≤ m) zs
-    go [] m l = tt
-    go (z ∷ zs) m l = (omega arith, go zs m (omega arith))
 
 -- ---- at most m in size
 

@@ -75,17 +75,18 @@ six xs l =
     ∙ ap (λ t. atZ xs 3 ∷ t) (drop-cons xs 4 (pos 0) (omega arith)
     ∙ ap (λ t. atZ xs 4 ∷ t) (drop-cons xs 5 (pos 0) (omega arith))))))
 
--- the five parts of the rest
-five : (r : List ℤ) → length r ≡ 1088 → take 64 r ++ take 320 (drop 64 r) ++ take 320 (drop 384 r) ++ take 320 (drop 704 r) ++ take 64 (drop 1024 r) ≡ r
-five r l =
-    ap (λ t. t ++ take 320 (drop 384 r) ++ take 320 (drop 704 r) ++ take 64 (drop 1024 r)) (sym (take-add 64 320 r))
-    ∙ ap (λ t. t ++ take 320 (drop 704 r) ++ take 64 (drop 1024 r)) (sym (take-add 384 320 r))
-    ∙ ap (λ t. t ++ take 64 (drop 1024 r)) (sym (take-add 704 320 r))
-    ∙ sym (take-add 1024 64 r)
-    ∙ take-all 1088 r (omega arith)
+-- five parts of a list: one of length n, three of length m, one of length n
+five : (n m : ℕ) (r : List ℤ) → length r ≡ n + m + m + m + n
+    → take n r ++ take m (drop n r) ++ take m (drop (n + m) r) ++ take m (drop (n + m + m) r) ++ take n (drop (n + m + m + m) r) ≡ r
+five n m r l =
+    ap (λ t. t ++ take m (drop (n + m) r) ++ take m (drop (n + m + m) r) ++ take n (drop (n + m + m + m) r)) (sym (take-add n m r))
+    ∙ ap (λ t. t ++ take m (drop (n + m + m) r) ++ take n (drop (n + m + m + m) r)) (sym (take-add (n + m) m r))
+    ∙ ap (λ t. t ++ take n (drop (n + m + m + m) r)) (sym (take-add (n + m + m) m r))
+    ∙ sym (take-add (n + m + m + m) n r)
+    ∙ take-all (n + m + m + m + n) r (omega arith)
 
 module _ (x0 x1 x2 x3 x4 x5 : ℤ) (r : List ℤ) where
-  parts-again : head-readable x0 x1 x2 x3 x4 x5 ≡ true → every (up-to LAST-NUMBER) (take 64 r) ≡ true → length r ≡ 1088
+  parts-again : head-readable x0 x1 x2 x3 x4 x5 ≡ true → every (up-to LAST-NUMBER) (take USERS r) ≡ true → length r ≡ USERS + CELLS + CELLS + CELLS + USERS
       → stored (day-in (x0 ∷ x1 ∷ x2 ∷ x3 ∷ x4 ∷ x5 ∷ r)) (x0 ∷ x1 ∷ x2 ∷ x3 ∷ x4 ∷ x5 ∷ r) ≡ x0 ∷ x1 ∷ x2 ∷ x3 ∷ x4 ∷ x5 ∷ r
   unfolding head-readable emissions-readable stored day-in
   parts-again h u l =
@@ -95,7 +96,7 @@ module _ (x0 x1 x2 x3 x4 x5 : ℤ) (r : List ℤ) where
       let m = both-fst (emissions-readable x3 x4) _ h3 in
       let e = emission-again (eqb (natAbs x2) 0) LIMIT x3 (natAbs x4) (both-fst (up-to LIMIT x3) _ m) in
       let w = downstream-again (eqb (natAbs x2) 0) (natAbs x3) x4 (natAbs x3) (both-snd (up-to LIMIT x3) _ m) in
-      rw (stage-again x0 (both-fst (up-to 2 x0) _ h), flag-again x1 (both-fst (up-to 1 x1) _ h1), measured-again x2 (natAbs x3) (natAbs x4) (both-fst (up-to 1 x2) _ h2), e, w, size-again USERS x5 (both-snd (emissions-readable x3 x4) _ h3), users-again (take 64 r) u, five r l)
+      rw (stage-again x0 (both-fst (up-to 2 x0) _ h), flag-again x1 (both-fst (up-to 1 x1) _ h1), measured-again x2 (natAbs x3) (natAbs x4) (both-fst (up-to 1 x2) _ h2), e, w, size-again USERS x5 (both-snd (emissions-readable x3 x4) _ h3), users-again (take USERS r) u, five USERS CELLS r l)
 
 module _ (xs : List ℤ) (e : is-readable xs ≡ true) where
   pub head-laid : head-readable (atZ xs 0) (atZ xs 1) (atZ xs 2) (atZ xs 3) (atZ xs 4) (atZ xs 5) ≡ true

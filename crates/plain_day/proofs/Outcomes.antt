@@ -10,18 +10,14 @@ use Rattle.numbers.specs.Lists.{both}
 use Rattle.numbers.proofs.Lists.{true≢false}
 use Rattle.point_day.specs.Struct.{Outcome, taken, outcome}
 use Rattle.point_day.specs.declared.PointDay.{PointDay}
-use Rattle.taken.specs.Tested.{TestedState}
+use Rattle.taken.specs.Tested.{StateOf}
 use Rattle.taken.specs.declared.StateTest.{StateTest}
-use Rattle.plain_day.specs.Layout.{is-readable, users-in, day-in}
+use Rattle.plain_day.specs.Layout.{is-readable, day-in}
 use Rattle.plain_day.specs.Lines.{is-taken}
 use Rattle.plain_day.specs.Tested.{TestedNumbers}
 use Rattle.plain_day.specs.Plain.{plain, given, plain-call}
 
 module _ (call : PointDay → Outcome) (vs xs : List ℤ) where
-  pub unreadable : is-readable xs ≡ false → plain 2 vs xs ≡ plain-call call vs xs
-  unfolding plain-call
-  unreadable e = rw e
-
   -- no point-day that is taken
   pub no-day : is-taken xs ≡ false → ((d : PointDay) → taken d ≡ false → outcome (refused 2) d ≡ call d) → plain 2 vs xs ≡ plain-call call vs xs
   unfolding plain-call
@@ -40,19 +36,9 @@ module _ (call : PointDay → Outcome) (vs xs : List ℤ) where
 
 -- ---- the test
 
-module _ (xs : List ℤ) {before after : List ℤ} {us : List ℕ} {r : StateTest} where
-  pub none-read : r .taken ≡ false → is-readable xs ≡ false → TestedNumbers xs before r us after
-  none-read t e = record {
-    is = t ∙ sym (rw e);
-    readable = λ y. true≢false (sym y ∙ t);
-    users = λ y. true≢false (sym y ∙ t);
-    state = λ y. true≢false (sym y ∙ t);
-  }
+module _ (xs : List ℤ) {s : StateTest} where
+  pub none-read : s .taken ≡ false → is-readable xs ≡ false → TestedNumbers xs s
+  none-read t e = record { is = t ∙ sym (rw e); readable = λ y. true≢false (sym y ∙ t); state = λ y. true≢false (sym y ∙ t) }
 
-  pub one-read : is-readable xs ≡ true → us ≡ users-in xs → TestedState (day-in xs) before r after → TestedNumbers xs before r us after
-  one-read e u s = record {
-    is = s .state .taken .is ∙ sym (rw e);
-    readable = λ y. e;
-    users = λ y. u;
-    state = λ y. s;
-  }
+  pub one-read : is-readable xs ≡ true → StateOf (day-in xs) s → TestedNumbers xs s
+  one-read e t = record { is = t .is ∙ sym (rw e); readable = λ y. e; state = λ y. t }

@@ -2,17 +2,14 @@
 use mathlib.Core.Bool.{true}
 use mathlib.Core.List.{List}
 use mathlib.Core.Path.{_≡_}
-use Prim.Native.Nat.{ℕ}
 use lib.IntN.{ℤ}
-use Rattle.taken.specs.Tested.{TestedState}
+use Rattle.taken.specs.Tested.{StateOf}
 use Rattle.taken.specs.declared.StateTest.{StateTest}
-use Rattle.plain_day.specs.Layout.{is-readable, users-in, day-in}
+use Rattle.plain_day.specs.Layout.{is-readable, day-in}
 use Rattle.plain_day.specs.Lines.{is-taken}
 
--- whether a point-day is read from the numbers xs and is taken; then us are its user numbers, and the column that held `before` starts
--- with its whole amounts, of which r has the sum
-pub record TestedNumbers (xs before : List ℤ) (r : StateTest) (us : List ℕ) (after : List ℤ) : Type 0 where
-  pub is : r .taken ≡ is-taken xs
-  pub readable : r .taken ≡ true → is-readable xs ≡ true
-  pub users : r .taken ≡ true → us ≡ users-in xs
-  pub state : r .taken ≡ true → TestedState (day-in xs) before r after
+-- whether a point-day is read from the numbers xs and is taken; then s is its test
+pub record TestedNumbers (xs : List ℤ) (s : StateTest) : Type 0 where
+  pub is : s .taken ≡ is-taken xs
+  pub readable : s .taken ≡ true → is-readable xs ≡ true
+  pub state : s .taken ≡ true → StateOf (day-in xs) s

@@ -5,9 +5,8 @@ pub mod writes;
 ghost use mathlib.Core.Path.{_≡_};
 ghost use lib.ListN.{length};
 ghost use Rattle.numbers.specs.Lists.{every};
-ghost use Rattle.point_day.specs.Limits.{USERS};
 ghost use Rattle.plain_day.specs.Layout.{LENGTH, up-to, emissions-readable, head-readable, is-readable, users-in, day-in};
-ghost use Rattle.taken.specs.Tested.{TestedState};
+ghost use Rattle.taken.specs.Tested.{StateOf};
 ghost use Rattle.plain_day.specs.Tested.{TestedNumbers};
 use point_day::CELLS;
 use point_day::LIMIT;
@@ -120,12 +119,13 @@ pub fn is_readable(xs: &[i64]) -> bool
     all_up_to(&xs[USERS_AT..CONSUMPTION_AT], LAST_NUMBER)
 }
 
-// The test of the point-day that is read from plain numbers, with its user numbers.
-fn test_read<'a>(day: &'a [i64], users: &'a [u16], wholes: &mut [i64]) -> StateTest
-    requires { ⌜ (length (now day) ≡ LENGTH) × (length (now users) ≡ USERS) × (now users ≡ users-in (now day)) × (length (now wholes) ≡ USERS) ⌝ }
-    ensures { λ r. ⌜ TestedState (day-in (now (day .entry))) (now (wholes .entry)) r (now (wholes .exit)) ⌝ }
+// The test of the point-day that is read from plain numbers, with these user numbers.
+fn test_read(day: &[i64], users: [u16; USERS]) -> StateTest
+    requires { ⌜ (length (now day) ≡ LENGTH) × (users ≡ users-in (now day)) ⌝ }
+    ensures { λ r. ⌜ StateOf (day-in (now (day .entry))) r ⌝ }
 {
     taken::test_state(
+        from_numbers::stage_in(day),
         from_numbers::allotted_in(day),
         from_numbers::measurement_in(day),
         from_numbers::count_in(day),
@@ -134,19 +134,17 @@ fn test_read<'a>(day: &'a [i64], users: &'a [u16], wholes: &mut [i64]) -> StateT
         &day[LOSSES_AT..BALANCE_AT],
         &day[BALANCE_AT..REVISION_AT],
         &day[REVISION_AT..LENGTH],
-        wholes,
     )
 }
 
-// The test of a point-day in plain numbers: whether one is read from them and is taken, and if so the sum of its whole amounts. `users` has
-// then its user numbers, and `wholes` starts with its whole amounts.
-pub fn test_numbers(day: &[i64], users: &mut [u16], wholes: &mut [i64]) -> StateTest
-    requires { ⌜ (length (now users) ≡ USERS) × (length (now wholes) ≡ USERS) ⌝ }
-    ensures { λ r. ⌜ TestedNumbers (now (day .entry)) (now (wholes .entry)) r (now (users .exit)) (now (wholes .exit)) ⌝ }
+// The test of a point-day in plain numbers: whether one is read from them and is taken.
+pub fn test_numbers(day: &[i64]) -> StateTest
+    ensures { λ r. ⌜ TestedNumbers (now (day .entry)) r ⌝ }
 {
     if !is_readable(day) {
         return taken::untaken();
     }
-    from_numbers::copy_users(&day[USERS_AT..CONSUMPTION_AT], users);
-    test_read(day, users, wholes)
+    let mut users = point_day::no_users();
+    from_numbers::copy_users(&day[USERS_AT..CONSUMPTION_AT], &mut users);
+    test_read(day, users)
 }

@@ -29,9 +29,6 @@ nobody = empty-user 0
 -- ---- rows of kinds-of
 
 module _ {A : Type 0} (f : User → List A) where
-  Fives : List User → Type 0
-  Fives us = All (λ u. length (f u) ≡ 5) us
-
   pub kinds-of-flat : (us : List User) (r : List A) (s : ℕ) → All (λ u. length (f u) ≡ 5) us → s < length us → kinds-of s (flat (map f us) ++ r) ≡ f (getD us s nobody)
   unfolding flat
   kinds-of-flat [] r s h l = absurd (omega arith)

@@ -114,14 +114,14 @@ module _ (d : PointDay) (z : Sized d) (t : Taken d) where
   numbers-back : padded USERS 0 (numbers (read d .users)) ≡ d .users
   numbers-back =
       rw read-numbers
-      (padded-take 0 64 (d .count) (d .users) (z .users) (t .few)
-      (rest-same (λ n. eqb n 0) 0 (λ y e. eqb-true y 0 e) 64 (d .count) (d .users) (z .users) (t .past .users)))
+      (padded-take 0 USERS (d .count) (d .users) (z .users) (t .few)
+      (rest-same (λ n. eqb n 0) 0 (λ y e. eqb-true y 0 e) USERS (d .count) (d .users) (z .users) (t .past .users)))
 
   revisions-back : padded USERS (pos 0) (map (λ (u : User). u .revision) (read d .users)) ≡ d .revision
   unfolding read user-at
   revisions-back =
       ap (padded USERS (pos 0)) (map-table (λ (u : User). u .revision) (user-at d) (d .count) ∙ table-take (pos 0) (d .revision) (d .count) (omega (arith, t .few, z .revision)))
-      ∙ padded-take (pos 0) 64 (d .count) (d .revision) (z .revision) (t .few) (rest-same is-zero (pos 0) zero-is 64 (d .count) (d .revision) (z .revision) (t .past .revision))
+      ∙ padded-take (pos 0) USERS (d .count) (d .revision) (z .revision) (t .few) (rest-same is-zero (pos 0) zero-is USERS (d .count) (d .revision) (z .revision) (t .past .revision))
 
   cells-back : (f : User → List ℤ) (xs : List ℤ) → length xs ≡ CELLS → ((s : ℕ) → f (user-at d s) ≡ kinds-of s xs) → none-past (5 * d .count) xs ≡ true
       → padded CELLS (pos 0) (flat (map f (read d .users))) ≡ xs

@@ -1,13 +1,12 @@
 -- Facts of every element of a list, by places. Assumes nothing.
-use mathlib.Core.Path.{_≡_, refl, ap, _∙_}
+use mathlib.Core.Path.{_≡_, refl}
 use mathlib.Core.Bool.{true}
 use mathlib.Core.List.{List, [], _∷_, map, zipWith}
 use Prim.Native.Nat.{ℕ, zero, suc, _≤_, _<_}
 use native.Mathlib.Omega.{arith}
-use lib.ListN.{length, getD, length-map}
-use Rattle.numbers.specs.Sums.{sum, at, total}
+use lib.ListN.{length, getD}
+use Rattle.numbers.specs.Sums.{total}
 use Rattle.numbers.proofs.Lists.{All, never}
-use Rattle.numbers.proofs.Sums.{total-sum, sum-eq}
 use Rattle.point_day.specs.Day.{some}
 
 -- ---- one place, and all
@@ -60,12 +59,6 @@ module _ {A B C : Type 0} (f : A → B → C) (a : A) (b : B) where
   all-zip-at P (x ∷ xs) (y ∷ ys) e h = (h 0 (omega arith), all-zip-at P xs ys (omega arith) (λ i l. h (suc i) (omega arith)))
 
 -- ---- sums over a list
-
-pub total-places : {A : Type 0} (f : A → ℕ) (a : A) (xs : List A) → total (map f xs) ≡ sum (λ i. f (getD xs i a)) (length xs)
-total-places f a xs =
-    total-sum (map f xs)
-    ∙ ap (sum (at (map f xs))) (length-map xs f)
-    ∙ sum-eq (at (map f xs)) (λ i. f (getD xs i a)) (length xs) (λ i l. map-at f a 0 xs i l)
 
 -- each part of a sum is at most the sum
 pub all-parts : {A : Type 0} (f : A → ℕ) (xs : List A) (m : ℕ) → total (map f xs) ≤ m → All (λ x. f x ≤ m) xs

@@ -10,4 +10,4 @@ pub mod Good
 pub mod Steps
 pub mod Settling
 pub mod Bounds
-pub mod Weights
+pub mod Counts

@@ -19,7 +19,7 @@ use Rattle.point_day.proofs.Taken.{Taken, taken-facts}
 use Rattle.point_day.proofs.Back.{read-count, laid-read}
 use Rattle.point_day.proofs.Called.{called-refused, called-accepted, test-holds, test-passed, none-left}
 use Rattle.point_day.proofs.Wholes.{whole-revised, assigned-long}
-use Rattle.point_day.proofs.Weights.{assigned-count}
+use Rattle.point_day.proofs.Counts.{assigned-count}
 use Rattle.columns.proofs.Padding.{zip-padded}
 use Rattle.taken.specs.Tested.{any-large}
 use Rattle.revise.specs.Revisions.{outstanding}

@@ -3,19 +3,20 @@ pub mod assignment;
 pub mod outstanding;
 
 ghost use mathlib.Core.Path.{_≡_};
+ghost use mathlib.Core.Bool.{true};
 ghost use Prim.Native.Nat.{_≤_};
-ghost use lib.ListN.{length};
 ghost use Rattle.numbers.specs.Lists.{both};
 ghost use Rattle.numbers.specs.Amounts.{SAFE};
-ghost use Rattle.point_day.specs.Limits.{USERS, TOLERANCE};
+ghost use Rattle.numbers.specs.Refusals.{OUT-OF-RANGE};
+ghost use Rattle.point_day.specs.Limits.{TOLERANCE};
 ghost use Rattle.point_day.specs.Day.{provisional};
 ghost use Rattle.point_day.specs.Fields.{set-revision};
 ghost use Rattle.point_day.specs.Calls.{within-tolerance, revision-assigned, revise};
 ghost use Rattle.point_day.specs.Answers.{answer-of};
 ghost use Rattle.point_day.specs.Struct.{outcome, called};
-ghost use Rattle.revise.specs.Revised.{Tested, Rest, with-rest};
+ghost use Rattle.taken.specs.Tested.{Finds, Some};
+ghost use Rattle.revise.specs.Revised.{Tested, Has};
 use point_day::Answer;
-use point_day::Measurement;
 use point_day::Outcome;
 use point_day::PointDay;
 use point_day::Stage;
@@ -40,26 +41,25 @@ fn is_revisable(stage: Stage, allotted: bool) -> bool
     false
 }
 
-// The tests of a revise by any tolerance on a point-day with these parts, of which `state` is the test; `column` starts with its whole
-// amounts. It has the revisions afterwards, if R is assigned: then no whole amount was negative, and the sum of the weights is their sum.
+// The tests of a revise by any tolerance on a point-day with these revisions, of which `state` is the test. `column` holds its whole
+// amounts, and afterwards the new revisions, if R is assigned: then no whole amount was negative, and the sum of the weights is their sum.
 pub fn revise_test<'a>(
     state: StateTest,
-    stage: Stage,
-    allotted: bool,
-    measurement: Measurement,
-    n: usize,
-    users: &'a [u16],
     revision: &'a [i64],
     tolerance: u64,
     column: &mut [i64],
 ) -> ReviseTest
-    requires { ⌜ Rest stage allotted measurement n (now users) (now revision) state (now column) × (length (now column) ≡ USERS) × (tolerance ≤ SAFE) ⌝ }
-    ensures { λ r. ⌜ ((x : Rest stage allotted measurement n (now (users .entry)) (now (revision .entry)) state (now (column .entry))) → Tested tolerance (with-rest x) r (now (column .exit))) ⌝ }
+    requires { ⌜ (state .taken ≡ true → Some (Has state (now revision))) × (now column ≡ state .wholes) × (tolerance ≤ SAFE) ⌝ }
+    ensures { λ r. ⌜ Finds state (r ≡ ReviseTest.Refused OUT-OF-RANGE) (λ d. d .revision ≡ now (revision .entry) → Tested tolerance d r (now (column .exit))) ⌝ }
 {
     if !state.taken {
         return ReviseTest::Refused(numbers::OUT_OF_RANGE);
     }
-    if !is_revisable(stage, allotted) {
+    let stage = state.stage;
+    let measurement = state.measurement;
+    let n = state.count;
+    let users = state.users;
+    if !is_revisable(stage, state.allotted) {
         return ReviseTest::Refused(numbers::WRONG_STAGE);
     }
     let amount = outstanding::outstanding(measurement, state.sum);
@@ -105,21 +105,9 @@ pub fn revise_by(day: PointDay, tolerance: u64) -> Outcome
     requires { ⌜ tolerance ≤ SAFE ⌝ }
     ensures { λ r. ⌜ outcome (answer-of (r .answer)) (r .day) ≡ called (revise tolerance) day ⌝ }
 {
-    let mut column = point_day::no_amounts();
-    let stage = day.stage;
-    let measurement = day.measurement;
-    let state = taken::test_day(day, &mut column);
-    let test = revise_test(
-        state,
-        stage,
-        day.allotted,
-        measurement,
-        day.count,
-        &day.users,
-        &day.revision,
-        tolerance,
-        &mut column,
-    );
+    let state = taken::test_day(day);
+    let mut column = state.wholes;
+    let test = revise_test(state, &day.revision, tolerance, &mut column);
     match test {
         ReviseTest::Refused(number) => point_day::refuse(number, day),
         ReviseTest::Within(amount) => within(amount, day),

@@ -1,5 +1,4 @@
 // The calls for programs in other languages, on numbers and lists that the caller lends.
-pub mod lists;
 
 ghost use mathlib.Core.Path.{_≡_};
 ghost use mathlib.Core.List.{[], _∷_};
@@ -26,7 +25,7 @@ ghost use Rattle.split.specs.Call.{answer, after};
 ghost use Rattle.spread.specs.Spread.{spread, number-of};
 ghost use Rattle.day_report.specs.Answered.{report-call, buffer-after, size-of, answer-of as bytes-of};
 ghost use Rattle.seatpomelo.specs.Settled.{settled, settles, number, size, type-number, month-numbers, province-numbers, estimate-numbers};
-ghost use Rattle.seatpomelo.specs.Lists.{amount-in, own-of, flows-in, entries-in, entry-count};
+ghost use Rattle.plain_values.specs.Lists.{amount-in, own-of, flows-in, entries-in, entry-count};
 use calendar::DayType;
 use calendar::DayTypeAnswer;
 use calendar::NumberAnswer;
@@ -262,10 +261,10 @@ pub extern "C" fn seatpomelo_telemetered(
     let answer = telemetered::telemetered(
         day,
         holidays,
-        lists::amount_in(reading),
-        lists::own_of(lists::amount_in(own)),
-        lists::flows_in(toll, yearly, daily, factor),
-        lists::history_in(tags, values),
+        plain_values::amount_in(reading),
+        plain_values::own_of(plain_values::amount_in(own)),
+        plain_values::flows_in(toll, yearly, daily, factor),
+        plain_values::history_in(tags, values),
         tags.len(),
     );
     match answer {
@@ -291,11 +290,11 @@ pub extern "C" fn seatpomelo_type_1_toll_34(
 {
     let answer = type_1::toll_34(
         day,
-        lists::amount_in(last_year),
+        plain_values::amount_in(last_year),
         g,
         last_days,
-        lists::amount_in(last_month),
-        lists::amount_in(yearly),
+        plain_values::amount_in(last_month),
+        plain_values::amount_in(yearly),
     );
     settle(answer, consumption)
 }
@@ -318,10 +317,10 @@ pub extern "C" fn seatpomelo_type_1_other_toll(
     let answer = type_1::other_toll(
         day,
         holidays,
-        lists::amount_in(last_year),
+        plain_values::amount_in(last_year),
         c_c,
-        lists::amount_in(last_month),
-        lists::amount_in(daily),
+        plain_values::amount_in(last_month),
+        plain_values::amount_in(daily),
         f_c,
         c_f,
     );

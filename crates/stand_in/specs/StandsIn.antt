@@ -1,16 +1,12 @@
 -- A stand-in that passes its tests, and what the tests find. Assumes nothing. No exported contract leans on it.
-use mathlib.Core.Bool.{Bool, true}
+use mathlib.Core.Bool.{true}
 use mathlib.Core.List.{List}
 use mathlib.Core.Path.{_≡_}
 use Prim.Native.Nat.{ℕ, _+_}
 use lib.IntN.{ℤ}
-use Rattle.point_day.specs.Fields.{point-day}
 use Rattle.point_day.specs.Calls.{refused, rows-looked-at, stand-in}
 use Rattle.point_day.specs.Struct.{taken, rows-of, outcome, called}
-use Rattle.point_day.specs.declared.Stage.{Stage}
-use Rattle.point_day.specs.declared.Measurement.{Measurement}
 use Rattle.point_day.specs.declared.PointDay.{PointDay}
-use Rattle.taken.specs.Tested.{IsTaken}
 use Rattle.stand_in.specs.Rows.{rows-in}
 use Rattle.stand_in.specs.Openings.{RowAt, row-users, opened-with}
 use Rattle.stand_in.specs.declared.StandInTest.{StandInTest}
@@ -28,16 +24,3 @@ pub record StandsIn (tolerance : ℕ) (counts users : List ℕ) (amounts : List 
 abbrev pub Tested : ℕ → List ℕ → List ℕ → List ℤ → PointDay → StandInTest → List ℤ → Type 0
 Tested tolerance cs us zs d (Refused n) shares = outcome (refused n) d ≡ called (stand-in tolerance (rows-of (rows-in cs us zs))) d
 Tested tolerance cs us zs d (Passed r) shares = StandsIn tolerance cs us zs d r shares
-
--- the rest of a point-day with these parts, taken or not
-pub record Rest (stage : Stage) (allotted : Bool) (m : Measurement) (n : ℕ) (is-taken : Bool) : Type 0 where
-  pub users : List ℕ
-  pub consumption : List ℤ
-  pub losses : List ℤ
-  pub balance : List ℤ
-  pub revision : List ℤ
-  pub tested : IsTaken (point-day stage allotted m n users consumption losses balance revision) is-taken
-
--- that point-day
-abbrev pub with-rest : {stage : Stage} {allotted : Bool} {m : Measurement} {n : ℕ} {is-taken : Bool} → Rest stage allotted m n is-taken → PointDay
-with-rest {stage} {allotted} {m} {n} x = point-day stage allotted m n (x .users) (x .consumption) (x .losses) (x .balance) (x .revision)

@@ -3,22 +3,25 @@ pub mod opening;
 pub mod rows;
 
 ghost use mathlib.Core.Path.{_≡_};
+ghost use mathlib.Core.Bool.{true};
 ghost use lib.IntN.{pos};
 ghost use lib.ListN.{replicate};
+ghost use Rattle.numbers.specs.Refusals.{OUT-OF-RANGE};
 ghost use Rattle.point_day.specs.Limits.{USERS, TOLERANCE};
+ghost use Rattle.point_day.specs.Day.{measurement-right};
 ghost use Rattle.point_day.specs.Calls.{stand-in};
 ghost use Rattle.point_day.specs.Answers.{answer-of};
 ghost use Rattle.point_day.specs.Struct.{rows-of, outcome, called};
+ghost use Rattle.taken.specs.Tested.{Finds};
 ghost use Rattle.stand_in.specs.Rows.{rows-in};
-ghost use Rattle.stand_in.specs.StandsIn.{Tested, Rest, with-rest};
+ghost use Rattle.stand_in.specs.StandsIn.{Tested};
 use point_day::Answer;
-use point_day::Measurement;
 use point_day::Outcome;
 use point_day::PointDay;
 use point_day::ROWS;
-use point_day::Stage;
 use point_day::StandInRows;
 use point_day::TOLERANCE;
+use taken::StateTest;
 
 // What the tests of a stand-in find: a refusal, or the place of the row that is used, from 0.
 pub enum StandInTest {
@@ -26,27 +29,25 @@ pub enum StandInTest {
     Passed(usize),
 }
 
-// The tests of a stand-in whose rows stand in three lists, on a point-day with these parts, taken or not. If they pass, a column of zeros
-// becomes the shares of the row's users.
+// The tests of a stand-in whose rows stand in three lists, on a point-day of which `state` is the test. If they pass, a column of
+// zeros becomes the shares of the row's users.
 pub fn stand_in_test<'a>(
-    is_taken: bool,
-    stage: Stage,
-    allotted: bool,
-    measurement: Measurement,
-    n: usize,
+    state: StateTest,
     counts: &'a [usize],
     joining: &'a [u16],
     amounts: &'a [i64],
     tolerance: u64,
     shares: &mut [i64],
 ) -> StandInTest
-    requires { ⌜ Rest stage allotted measurement n «is_taken» × (now shares ≡ replicate USERS (pos 0)) ⌝ }
-    ensures { λ r. ⌜ ((x : Rest stage allotted measurement n «is_taken») → Tested tolerance (now (counts .entry)) (now (joining .entry)) (now (amounts .entry)) (with-rest x) r (now (shares .exit))) ⌝ }
+    requires { ⌜ (state .taken ≡ true → measurement-right (state .measurement) ≡ true) × (now shares ≡ replicate USERS (pos 0)) ⌝ }
+    ensures { λ r. ⌜ Finds state (r ≡ StandInTest.Refused OUT-OF-RANGE) (λ d. Tested tolerance (now (counts .entry)) (now (joining .entry)) (now (amounts .entry)) d r (now (shares .exit))) ⌝ }
 {
-    if !is_taken {
+    if !state.taken {
         return StandInTest::Refused(numbers::OUT_OF_RANGE);
     }
-    if !opening::is_open(stage, allotted, n) {
+    let stage = state.stage;
+    let measurement = state.measurement;
+    if !opening::is_open(stage, state.allotted, state.count) {
         return StandInTest::Refused(numbers::WRONG_STAGE);
     }
     if !rows::rows_right(counts, joining, amounts) {
@@ -81,22 +82,9 @@ pub fn stand_in_lists<'a>(
 ) -> Outcome
     ensures { λ r. ⌜ outcome (answer-of (r .answer)) (r .day) ≡ called (stand-in tolerance (rows-of (rows-in (now (counts .entry)) (now (users .entry)) (now (amounts .entry))))) day ⌝ }
 {
+    let state = taken::test_day(day);
     let mut shares = point_day::no_amounts();
-    let stage = day.stage;
-    let measurement = day.measurement;
-    let is_taken = taken::is_taken(day);
-    let test = stand_in_test(
-        is_taken,
-        stage,
-        day.allotted,
-        measurement,
-        day.count,
-        counts,
-        users,
-        amounts,
-        tolerance,
-        &mut shares,
-    );
+    let test = stand_in_test(state, counts, users, amounts, tolerance, &mut shares);
     match test {
         StandInTest::Refused(number) => point_day::refuse(number, day),
         StandInTest::Passed(row) => {

@@ -2,17 +2,18 @@
 ghost use mathlib.Core.Path.{_≡_};
 ghost use mathlib.Core.Bool.{not};
 ghost use Rattle.numbers.specs.Lists.{either};
+ghost use Rattle.numbers.specs.Refusals.{OUT-OF-RANGE};
 ghost use Rattle.point_day.specs.Day.{last-stage, next};
 ghost use Rattle.point_day.specs.Calls.{start-final};
 ghost use Rattle.point_day.specs.Answers.{answer-of};
 ghost use Rattle.point_day.specs.Struct.{outcome, called};
-ghost use Rattle.point_day.specs.declared.PointDay.{PointDay};
-ghost use Rattle.taken.specs.Tested.{IsTaken};
+ghost use Rattle.taken.specs.Tested.{Finds};
 ghost use Rattle.start_final.specs.Writes.{restarted, Tested};
 use point_day::Answer;
 use point_day::Outcome;
 use point_day::PointDay;
 use point_day::Stage;
+use taken::StateTest;
 
 // Whether the stage is the last.
 fn is_last(stage: Stage) -> bool
@@ -46,14 +47,15 @@ fn cannot_start(allotted: bool, stage: Stage) -> bool
     true
 }
 
-// The tests of a start-final on a point-day with these parts, taken or not: 0, or the number of the refusal.
-pub fn start_final_test(is_taken: bool, stage: Stage, allotted: bool) -> u8
-    ensures { λ r. ⌜ ((d : PointDay) → IsTaken d «is_taken» → d .stage ≡ stage → d .allotted ≡ allotted → Tested d r) ⌝ }
+// The tests of a start-final on a point-day, of which `state` is the test: 0, or the number of the refusal.
+pub fn start_final_test(state: StateTest) -> u8
+    ensures { λ r. ⌜ Finds state (r ≡ OUT-OF-RANGE) (λ d. Tested d r) ⌝ }
 {
-    if !is_taken {
+    if !state.taken {
         return numbers::OUT_OF_RANGE;
     }
-    if cannot_start(allotted, stage) {
+    let stage = state.stage;
+    if cannot_start(state.allotted, stage) {
         return numbers::WRONG_STAGE;
     }
     0
@@ -84,9 +86,8 @@ fn restart(day: PointDay) -> PointDay
 pub fn start_final(day: PointDay) -> Outcome
     ensures { λ r. ⌜ outcome (answer-of (r .answer)) (r .day) ≡ called start-final day ⌝ }
 {
-    let stage = day.stage;
-    let is_taken = taken::is_taken(day);
-    let number = start_final_test(is_taken, stage, day.allotted);
+    let state = taken::test_day(day);
+    let number = start_final_test(state);
     if number != 0 {
         return point_day::refuse(number, day);
     }

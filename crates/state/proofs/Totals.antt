@@ -103,9 +103,6 @@ pos-total f (suc n) =
     ap pos one ∙ ap (λ t. t +ℤ pos (f n)) (pos-total f n)
 
 module _ (d : PointDay) (z : Sized d) (c : none-below (d .consumption) ≡ true) (l : none-below (d .losses) ≡ true) where
-  at-slot : ℕ → ℤ
-  at-slot s = whole-at (d .consumption) (d .losses) (d .balance) (d .revision) s
-
   pub whole-is : (s : ℕ) → s < USERS → whole (user-at d s) ≡ whole-at (d .consumption) (d .losses) (d .balance) (d .revision) s
   unfolding user-at
   whole-is s m =

@@ -31,7 +31,7 @@ use Rattle.state.specs.Places.{From, ROOM, Small, Summable, Lengths, whole-at}
 use Rattle.state.proofs.Cells.{zero-between, between-zero, between-sign, low-size, nonneg-between, between-size, size-between, within-from, low-from}
 use Rattle.state.proofs.Totals.{kinds-long, offtake-is, whole-is, wholes-are}
 use Rattle.point_day.specs.Fields.{point-day}
-use Rattle.taken.specs.Tested.{StateOf, Wholes, any-large}
+use Rattle.taken.specs.Tested.{Known, Finds, Wholes, any-large}
 use Rattle.taken.specs.declared.StateTest.{StateTest}
 use Rattle.point_day.specs.declared.Stage.{Stage}
 
@@ -258,17 +258,30 @@ module _ (d : PointDay) (z : Sized d) (e : taken d ≡ true) where
 pub first-wholes : (f : ℕ → ℤ) (n : ℕ) (before : List ℤ) {xs : List ℤ} → xs ≡ table f n ++ drop n before → take n xs ≡ table f n
 first-wholes f n before e = ap (take n) e ∙ take-at (table f n) (drop n before) n (length-table f n)
 
--- an entering point-day: the sum of its whole amounts is its consumption and losses
--- the sum that the test of a taken point-day found
-pub found-sum : (d : PointDay) {r : StateTest} → StateOf d r → r .taken ≡ true → sum-right (r .sum) ≡ true
-found-sum d s y = ap sum-right (s .sum y) ∙ taken-facts d (sym (s .taken .is) ∙ y) .sum
+-- the tests of a call, on a point-day that is not taken, and on one that is
+pub not-found : {s : StateTest} {Q : Type 0} {P : PointDay → Type 0} → s .taken ≡ false → Q → ((d : PointDay) → taken d ≡ false → P d) → Finds s Q P
+not-found n q f = record { none = λ e. q; of = λ d t. f d (sym (t .is) ∙ n) }
 
--- a sum in its range, as a number of 64 bits
+pub found : {s : StateTest} {Q : Type 0} {P : PointDay → Type 0} → s .taken ≡ true → ((d : PointDay) → Known d s → P d) → Finds s Q P
+found y f = record { none = λ e. true≢false (sym y ∙ e); of = λ d t. f d (t .known y) }
+
+-- what is known of a taken point-day
+pub known-few : {d : PointDay} {s : StateTest} → Known d s → s .count ≤ USERS
+known-few {d} k = omega (arith, taken-facts d (k .is-taken) .few, k .count)
+
+pub known-measurement : {d : PointDay} {s : StateTest} → Known d s → measurement-right (s .measurement) ≡ true
+known-measurement {d} k = rw (← k .measurement) (taken-facts d (k .is-taken) .measurement)
+
+pub known-sum : {d : PointDay} {s : StateTest} → Known d s → sum-right (s .sum) ≡ true
+known-sum {d} k = ap sum-right (k .sum) ∙ taken-facts d (k .is-taken) .sum
+
+-- the sum of the whole amounts of a taken point-day, as a number of 64 bits
 pub sum-fits : (z : ℤ) → sum-right z ≡ true → (toZ w64 (ofZ w64 z) ≡ pos (natAbs z)) × (natAbs z ≤ LIMIT)
 sum-fits z e =
     let l = leb-true (natAbs z) LIMIT (both-snd (not (is-negative z)) _ e) in
     (back (record { size = l }) (omega arith) ∙ pos-size z (not-true _ (both-fst (not (is-negative z)) _ e)), l)
 
+-- an entering point-day: the sum of its whole amounts is its consumption and losses
 pub entering-sum : (d : PointDay) → Sized d → taken d ≡ true → d .allotted ≡ false → all-whole (read d .users) ≡ pos (all-offtake (read d .users))
 entering-sum d z t e = bare-all (read d .users) (taken-sound d z (taken-facts d t) .entering (unfold read in e))
 

@@ -32,14 +32,14 @@ use Rattle.state.specs.Places.{From, ROOM, LOW, LowSlot, SizedSlot, cellZ, offt
 use Rattle.state.proofs.Cells.{zero-between, between-zero, between-sign, low-size, nonneg-between, between-size, at-most}
 use Rattle.state.proofs.Lows.{offtake-within, user-balance-within}
 use Rattle.state.proofs.Totals.{kinds-long, whole-is, wholes-are, whole-parts, offtakes-are}
-use Rattle.taken.specs.declared.StateTest.{StateTest}
-use Rattle.taken.specs.Tested.{TestedState, Found, Head, Offtakes, Wholes, Balances, Entering, Allotted, added-at}
+use Rattle.taken.specs.declared.Tally.{Tally}
+use Rattle.taken.specs.Tested.{TestedParts, Found, Head, Offtakes, Wholes, Balances, Entering, Allotted, added-at}
 use Rattle.taken.proofs.Facts.{wholes-of, Facts, all-users, some-users, numbers-are, bare, facts, untaken, taken-summable}
 
 -- ---- answers
 
 -- a test that fails, since P does not hold
-pub found-none : {P : Type 0} {f : ℕ → ℤ} {n : ℕ} {before after : List ℤ} {r : StateTest} → r .taken ≡ false → (P → ⊥) → Found P f n before r after
+pub found-none : {P : Type 0} {f : ℕ → ℤ} {n : ℕ} {before after : List ℤ} {r : Tally} → r .right ≡ false → (P → ⊥) → Found P f n before r after
 found-none e h = record {
   decides = record { yes = λ q. true≢false (sym q ∙ e); no = λ q p. h p };
   sum = λ q. true≢false (sym q ∙ e);
@@ -47,7 +47,7 @@ found-none e h = record {
 }
 
 -- a test of more: P is Q and what is known
-pub found-more : {P Q : Type 0} {f : ℕ → ℤ} {n : ℕ} {before after : List ℤ} {r : StateTest} → (Q → P) → (P → Q) → Found Q f n before r after → Found P f n before r after
+pub found-more : {P Q : Type 0} {f : ℕ → ℤ} {n : ℕ} {before after : List ℤ} {r : Tally} → (Q → P) → (P → Q) → Found Q f n before r after → Found P f n before r after
 found-more g h t = record {
   decides = record { yes = λ q. g (t .decides .yes q); no = λ q p. t .decides .no q (h p) };
   sum = t .sum;
@@ -62,7 +62,7 @@ offtakes-back cs ls n l h e =
     ap (toZ w64) e ∙ back (within-first (10 * ROOM) (offtake-at cs ls) n (λ s m. offtake-within cs ls s (h s m))) (omega (arith, mul-le-mul-right (10 * ROOM) l))
 
 pub offtakes-found : (cs ls : List ℤ) (n : ℕ) (before after : List ℤ) → ((s : ℕ) → s < n → LowSlot cs ls s) → (z : ℤ) → z ≡ sumZ (offtake-at cs ls) n → after ≡ table (offtake-at cs ls) n ++ drop n before
-    → Found (Offtakes n cs ls) (offtake-at cs ls) n before record { taken = leZ z (pos LIMIT); sum = z } after
+    → Found (Offtakes n cs ls) (offtake-at cs ls) n before record { right = leZ z (pos LIMIT); sum = z } after
 offtakes-found cs ls n before after h z e w = record {
   decides = record {
     yes = λ q. record { low = h; limit = sym (ap (λ t. leZ t (pos LIMIT)) e) ∙ q };
@@ -108,7 +108,7 @@ module _ (ws bs rs : List ℤ) (n : ℕ) where
   balances-below z e q p = true≢false (sym (ap (λ t. ltZ t (pos 0)) (sym e) ∙ q) ∙ p .wholes .sum .above)
 
   pub balances-found : {after : List ℤ} → ((s : ℕ) → s < n → Added ws bs rs s) → (z : ℤ) → z ≡ sumZ (added-at ws bs rs) n → ltZ z (pos 0) ≡ false → after ≡ table (added-at ws bs rs) n ++ drop n ws
-      → Found (Balances n ws bs rs) (added-at ws bs rs) n ws record { taken = leZ z (pos LIMIT); sum = z } after
+      → Found (Balances n ws bs rs) (added-at ws bs rs) n ws record { right = leZ z (pos LIMIT); sum = z } after
   balances-found h z e q w = record {
     decides = record {
       yes = λ t. record { sizes = λ s l. h s l .0; wholes = record { each = λ s l. h s l .1 .size; sum = rw e at (at-most LIMIT z q .yes t) } };
@@ -134,7 +134,7 @@ module _ (cs ls bs rs : List ℤ) (n : ℕ) (before ws : List ℤ) (e : ws ≡ t
   column-rest : drop n ws ≡ drop n before
   column-rest = ap (drop n) e ∙ drop-at (table (offtake-at cs ls) n) (drop n before) n (length-table (offtake-at cs ls) n)
 
-  pub allotted-found : {P : Type 0} {r : StateTest} {after : List ℤ} → (((s : ℕ) → s < n → SizedSlot bs rs s) → Wholes n (whole-at cs ls bs rs) → P) → (P → ((s : ℕ) → s < n → SizedSlot bs rs s) × Wholes n (whole-at cs ls bs rs))
+  pub allotted-found : {P : Type 0} {r : Tally} {after : List ℤ} → (((s : ℕ) → s < n → SizedSlot bs rs s) → Wholes n (whole-at cs ls bs rs) → P) → (P → ((s : ℕ) → s < n → SizedSlot bs rs s) × Wholes n (whole-at cs ls bs rs))
       → Found (Balances n ws bs rs) (added-at ws bs rs) n ws r after → Found P (whole-at cs ls bs rs) n before r after
   allotted-found g h t =
       let q : sumZ (added-at ws bs rs) n ≡ sumZ (whole-at cs ls bs rs) n = sumZ-eq (added-at ws bs rs) (whole-at cs ls bs rs) n added-whole in
@@ -353,25 +353,24 @@ module _ (d : PointDay) (z : Sized d) (e : d .allotted ≡ false) where
 
 -- ---- the whole test
 
-pub state-none : (d : PointDay) → Sized d → {before after : List ℤ} {r : StateTest} → r .taken ≡ false → (Facts d → ⊥) → TestedState d before r after
-state-none d z e h = record {
-  state = record { taken = record { sized = z; is = e ∙ untaken d (λ q. h (facts d z q)) }; sum = λ q. true≢false (sym q ∙ e) };
+pub parts-none : (d : PointDay) → Sized d → {before after : List ℤ} {r : Tally} → r .right ≡ false → (Facts d → ⊥) → TestedParts d before r after
+parts-none d z e h = record {
+  is = e ∙ untaken d (λ q. h (facts d z q));
+  sum = λ q. true≢false (sym q ∙ e);
   wholes = λ q. true≢false (sym q ∙ e);
 }
 
-pub state-found : (d : PointDay) → Sized d → {P : Type 0} {f : ℕ → ℤ} {before after : List ℤ} {r : StateTest} → Found P f (d .count) before r after → (P → taken d ≡ true) → (taken d ≡ true → P) → (P → (s : ℕ) → s < d .count → f s ≡ wholes-of d s)
-    → TestedState d before r after
-state-found d z {P} {f} {before} {after} {r} t g h q = record {
-  state = record {
-    taken = record { sized = z; is = go (r .taken) refl };
-    sum = λ e.
-        let p = t .decides .yes e in
-        let l = taken-summable d z (g p) in
-        t .sum e ∙ sumZ-eq f (wholes-of d) (d .count) (q p) ∙ sym (wholes-are d z (l .above) (l .above-losses) (l .few));
-  };
+pub parts-found : (d : PointDay) → Sized d → {P : Type 0} {f : ℕ → ℤ} {before after : List ℤ} {r : Tally} → Found P f (d .count) before r after → (P → taken d ≡ true) → (taken d ≡ true → P) → (P → (s : ℕ) → s < d .count → f s ≡ wholes-of d s)
+    → TestedParts d before r after
+parts-found d z {P} {f} {before} {after} {r} t g h q = record {
+  is = go (r .right) refl;
+  sum = λ e.
+      let p = t .decides .yes e in
+      let l = taken-summable d z (g p) in
+      t .sum e ∙ sumZ-eq f (wholes-of d) (d .count) (q p) ∙ sym (wholes-are d z (l .above) (l .above-losses) (l .few));
   wholes = λ e. t .wholes e ∙ ap (λ x. x ++ drop (d .count) before) (same-table f (wholes-of d) (d .count) (q (t .decides .yes e)));
 }
   where
-    go : (p : Bool) → r .taken ≡ p → p ≡ taken d
+    go : (p : Bool) → r .right ≡ p → p ≡ taken d
     go true e = sym (g (t .decides .yes e))
     go false e = untaken d (λ q. t .decides .no e (h q))

@@ -16,27 +16,46 @@ use Rattle.point_day.specs.declared.Measurement.{Measurement}
 use Rattle.point_day.specs.declared.PointDay.{PointDay}
 use Rattle.state.specs.Places.{From, LowSlot, SizedSlot, offtake-at, balance-at, whole-at}
 use Rattle.taken.specs.declared.StateTest.{StateTest}
+use Rattle.taken.specs.declared.Tally.{Tally}
 
--- r says whether the point-day d is taken
-pub record IsTaken (d : PointDay) (r : Bool) : Type 0 where
+-- s is what the test of the taken point-day d found: all that d holds but its amounts, and its users' whole amounts with their sum
+pub record Known (d : PointDay) (s : StateTest) : Type 0 where
   pub sized : Sized d
-  pub is : r ≡ taken d
+  pub is-taken : taken d ≡ true
+  pub stage : d .stage ≡ s .stage
+  pub allotted : d .allotted ≡ s .allotted
+  pub measurement : d .measurement ≡ s .measurement
+  pub count : d .count ≡ s .count
+  pub users : d .users ≡ s .users
+  pub wholes : take (d .count) (s .wholes) ≡ table (whole-at (d .consumption) (d .losses) (d .balance) (d .revision)) (d .count)
+  pub sum : s .sum ≡ all-whole (read d .users)
 
--- the test r of the point-day d: whether it is taken, and if it is the sum of its whole amounts
-pub record StateOf (d : PointDay) (r : StateTest) : Type 0 where
-  pub taken : IsTaken d (r .taken)
-  pub sum : r .taken ≡ true → r .sum ≡ all-whole (read d .users)
+-- s is the test of the point-day d
+pub record StateOf (d : PointDay) (s : StateTest) : Type 0 where
+  pub is : s .taken ≡ taken d
+  pub known : s .taken ≡ true → Known d s
 
--- the same; if the point-day is taken, the column that held `before` starts with its whole amounts
-pub record TestedState (d : PointDay) (before : List ℤ) (r : StateTest) (after : List ℤ) : Type 0 where
-  pub state : StateOf d r
-  pub wholes : r .taken ≡ true → after ≡ table (whole-at (d .consumption) (d .losses) (d .balance) (d .revision)) (d .count) ++ drop (d .count) before
+-- what the tests of a call find of a point-day of which s is the test: P of it; if it is not taken, Q
+pub record Finds (s : StateTest) (Q : Type 0) (P : PointDay → Type 0) : Type 0 where
+  pub none : s .taken ≡ false → Q
+  pub of : (d : PointDay) → StateOf d s → P d
+
+-- there is a point-day of which P holds
+pub record Some (P : PointDay → Type 0) : Type 0 where
+  pub day : PointDay
+  pub holds : P day
+
+-- the test r of the parts of d: whether it is taken; if so, the sum of its whole amounts, and the column that held `before` starts with them
+pub record TestedParts (d : PointDay) (before : List ℤ) (r : Tally) (after : List ℤ) : Type 0 where
+  pub is : r .right ≡ taken d
+  pub sum : r .right ≡ true → r .sum ≡ all-whole (read d .users)
+  pub wholes : r .right ≡ true → after ≡ table (whole-at (d .consumption) (d .losses) (d .balance) (d .revision)) (d .count) ++ drop (d .count) before
 
 -- a test that decides P; if P holds, the sum of n whole amounts f, and the column starts with them
-pub record Found (P : Type 0) (f : ℕ → ℤ) (n : ℕ) (before : List ℤ) (r : StateTest) (after : List ℤ) : Type 0 where
-  pub decides : Decides (r .taken) P
-  pub sum : r .taken ≡ true → r .sum ≡ sumZ f n
-  pub wholes : r .taken ≡ true → after ≡ table f n ++ drop n before
+pub record Found (P : Type 0) (f : ℕ → ℤ) (n : ℕ) (before : List ℤ) (r : Tally) (after : List ℤ) : Type 0 where
+  pub decides : Decides (r .right) P
+  pub sum : r .right ≡ true → r .sum ≡ sumZ f n
+  pub wholes : r .right ≡ true → after ≡ table f n ++ drop n before
 
 -- number of users, user numbers and measurement
 pub record Head (m : Measurement) (n : ℕ) (us : List ℕ) : Type 0 where

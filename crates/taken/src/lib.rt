@@ -9,9 +9,9 @@ ghost use Rattle.numbers.specs.Sums.{atZ};
 ghost use Rattle.numbers.specs.Amounts.{Within, Decides};
 ghost use Rattle.point_day.specs.Limits.{USERS, CELLS};
 ghost use Rattle.point_day.specs.Day.{measurement-right};
-ghost use Rattle.state.specs.Places.{ROOM, Lengths, offtake-at, whole-at};
+ghost use Rattle.state.specs.Places.{ROOM, Lengths, LowSlot, SizedSlot, offtake-at, whole-at};
 ghost use Rattle.point_day.specs.Fields.{point-day};
-ghost use Rattle.taken.specs.Tested.{IsTaken, TestedState, Found, Head, Ended, Offtakes, Balances, Entering, Allotted, added-at, any-large};
+ghost use Rattle.taken.specs.Tested.{StateOf, TestedParts, Found, Head, Ended, Offtakes, Balances, Entering, Allotted, added-at, any-large};
 ghost use Rattle.point_day.specs.declared.Stage.{Stage};
 use point_day::AMOUNT;
 use point_day::CELLS;
@@ -19,6 +19,7 @@ use point_day::KINDS;
 use point_day::LIMIT;
 use point_day::Measurement;
 use point_day::PointDay;
+use point_day::Stage;
 use point_day::USERS;
 
 // The greatest sum, and the least and the greatest whole amount.
@@ -38,18 +39,18 @@ fn measurement_right(measurement: Measurement) -> bool
     }
 }
 
-// What the test of a point-day finds: whether it is taken, and if so the sum of its whole amounts.
-pub struct StateTest {
-    pub taken: bool,
-    pub sum: i64,
+// What a test of amounts finds: whether they are right, and if so the sum of the whole amounts.
+struct Tally {
+    right: bool,
+    sum: i64,
 }
 
-// Not taken.
-pub fn untaken() -> StateTest
-    ensures { λ r. ⌜ r .taken ≡ false ⌝ }
+// Not right.
+fn wrong() -> Tally
+    ensures { λ r. ⌜ r .right ≡ false ⌝ }
 {
-    StateTest {
-        taken: false,
+    Tally {
+        right: false,
         sum: 0,
     }
 }
@@ -71,31 +72,60 @@ fn head_right(measurement: Measurement, n: usize, users: &[u16]) -> bool
     measurement_right(measurement)
 }
 
-// Consumption and losses of n users: each is tested before it is added, so that nothing overflows on any values.
-fn offtakes_test<'a>(
+// Whether the consumption and losses of each of n users are low.
+fn all_low<'a>(consumption: &'a [i64], losses: &'a [i64], n: usize) -> bool
+    requires { ⌜ (n ≤ USERS) × (length (now consumption) ≡ CELLS) × (length (now losses) ≡ CELLS) ⌝ }
+    ensures { λ r. ⌜ Decides r ((s : ℕ) → s < n → LowSlot (now (consumption .entry)) (now (losses .entry)) s) ⌝ }
+{
+    let mut s = 0;
+    while s < n {
+        if !state::user_low(consumption, losses, s) {
+            return false;
+        }
+        s += 1;
+    }
+    true
+}
+
+// Consumption and losses of n users, all low, into a column.
+fn add_offtakes<'a>(
     consumption: &'a [i64],
     losses: &'a [i64],
     n: usize,
     wholes: &mut [i64],
-) -> StateTest
-    requires { ⌜ (n ≤ USERS) × (length (now consumption) ≡ CELLS) × (length (now losses) ≡ CELLS) × (length (now wholes) ≡ USERS) ⌝ }
+) -> Tally
+    requires { ⌜ (n ≤ USERS) × (length (now consumption) ≡ CELLS) × (length (now losses) ≡ CELLS) × (length (now wholes) ≡ USERS) × ((s : ℕ) → s < n → LowSlot (now consumption) (now losses) s) ⌝ }
     ensures { λ r. ⌜ Found (Offtakes n (now (consumption .entry)) (now (losses .entry))) (offtake-at (now (consumption .entry)) (now (losses .entry))) n (now (wholes .entry)) r (now (wholes .exit)) ⌝ }
 {
     let mut sum: i64 = 0;
     let mut s = 0;
     while s < n {
-        if !state::user_low(consumption, losses, s) {
-            return untaken();
-        }
         let offtake = state::user_offtake(consumption, losses, s);
         wholes[s] = offtake;
         sum = sum + offtake;
         s += 1;
     }
-    StateTest {
-        taken: sum <= SUM,
+    Tally {
+        right: sum <= SUM,
         sum: sum,
     }
+}
+
+// Consumption and losses of n users: each is tested before it is added, so that nothing overflows on any values. (Two passes, of which each
+// needs fewer registers, are faster than one.)
+fn offtakes_test<'a>(
+    consumption: &'a [i64],
+    losses: &'a [i64],
+    n: usize,
+    wholes: &mut [i64],
+) -> Tally
+    requires { ⌜ (n ≤ USERS) × (length (now consumption) ≡ CELLS) × (length (now losses) ≡ CELLS) × (length (now wholes) ≡ USERS) ⌝ }
+    ensures { λ r. ⌜ Found (Offtakes n (now (consumption .entry)) (now (losses .entry))) (offtake-at (now (consumption .entry)) (now (losses .entry))) n (now (wholes .entry)) r (now (wholes .exit)) ⌝ }
+{
+    if !all_low(consumption, losses, n) {
+        return wrong();
+    }
+    add_offtakes(consumption, losses, n, wholes)
 }
 
 // The amounts of n users while entering: whole amounts are consumption and losses.
@@ -106,56 +136,74 @@ fn entering_test<'a>(
     balance: &'a [i64],
     revision: &'a [i64],
     wholes: &mut [i64],
-) -> StateTest
+) -> Tally
     requires { ⌜ (n ≤ USERS) × Lengths (now consumption) (now losses) (now balance) (now revision) × (length (now wholes) ≡ USERS) ⌝ }
     ensures { λ r. ⌜ Found (Entering n (now (consumption .entry)) (now (losses .entry)) (now (balance .entry)) (now (revision .entry))) (offtake-at (now (consumption .entry)) (now (losses .entry))) n (now (wholes .entry)) r (now (wholes .exit)) ⌝ }
 {
     if !numbers::all_zero(balance, 0) {
-        return untaken();
+        return wrong();
     }
     if !numbers::all_zero(revision, 0) {
-        return untaken();
+        return wrong();
     }
     if !numbers::all_zero(consumption, KINDS * n) {
-        return untaken();
+        return wrong();
     }
     if !numbers::all_zero(losses, KINDS * n) {
-        return untaken();
+        return wrong();
     }
     offtakes_test(consumption, losses, n, wholes)
 }
 
-// Balances and revisions of n users, added to a column of consumption and losses: each is tested before it is added.
-fn balances_test<'a>(
-    balance: &'a [i64],
-    revision: &'a [i64],
-    n: usize,
-    wholes: &mut [i64],
-) -> StateTest
-    requires { ⌜ (n ≤ USERS) × (length (now balance) ≡ CELLS) × (length (now revision) ≡ USERS) × (length (now wholes) ≡ USERS) × ((s : ℕ) → s < n → Within (10 * ROOM) (atZ (now wholes) s)) ⌝ }
+// Whether the balances and the revision of each of n users are in range.
+fn all_sized<'a>(balance: &'a [i64], revision: &'a [i64], n: usize) -> bool
+    requires { ⌜ (n ≤ USERS) × (length (now balance) ≡ CELLS) × (length (now revision) ≡ USERS) ⌝ }
+    ensures { λ r. ⌜ Decides r ((s : ℕ) → s < n → SizedSlot (now (balance .entry)) (now (revision .entry)) s) ⌝ }
+{
+    let mut s = 0;
+    while s < n {
+        if !state::user_sized(balance, revision, s) {
+            return false;
+        }
+        s += 1;
+    }
+    true
+}
+
+// Balances and revisions of n users, all in range, added to a column of consumption and losses.
+fn add_balances<'a>(balance: &'a [i64], revision: &'a [i64], n: usize, wholes: &mut [i64]) -> Tally
+    requires { ⌜ (n ≤ USERS) × (length (now balance) ≡ CELLS) × (length (now revision) ≡ USERS) × (length (now wholes) ≡ USERS) × ((s : ℕ) → s < n → Within (10 * ROOM) (atZ (now wholes) s)) × ((s : ℕ) → s < n → SizedSlot (now balance) (now revision) s) ⌝ }
     ensures { λ r. ⌜ Found (Balances n (now (wholes .entry)) (now (balance .entry)) (now (revision .entry))) (added-at (now (wholes .entry)) (now (balance .entry)) (now (revision .entry))) n (now (wholes .entry)) r (now (wholes .exit)) ⌝ }
 {
     let mut sum: i64 = 0;
     let mut s = 0;
     while s < n {
-        if !state::user_sized(balance, revision, s) {
-            return untaken();
-        }
         let whole = numbers::plus(wholes[s], state::user_balance(balance, revision, s));
         if !numbers::size_at_most(whole, AMOUNT) {
-            return untaken();
+            return wrong();
         }
         wholes[s] = whole;
         sum = sum + whole;
         s += 1;
     }
     if sum < 0 {
-        return untaken();
+        return wrong();
     }
-    StateTest {
-        taken: sum <= SUM,
+    Tally {
+        right: sum <= SUM,
         sum: sum,
     }
+}
+
+// Balances and revisions of n users, added to a column of consumption and losses: each is tested before it is added.
+fn balances_test<'a>(balance: &'a [i64], revision: &'a [i64], n: usize, wholes: &mut [i64]) -> Tally
+    requires { ⌜ (n ≤ USERS) × (length (now balance) ≡ CELLS) × (length (now revision) ≡ USERS) × (length (now wholes) ≡ USERS) × ((s : ℕ) → s < n → Within (10 * ROOM) (atZ (now wholes) s)) ⌝ }
+    ensures { λ r. ⌜ Found (Balances n (now (wholes .entry)) (now (balance .entry)) (now (revision .entry))) (added-at (now (wholes .entry)) (now (balance .entry)) (now (revision .entry))) n (now (wholes .entry)) r (now (wholes .exit)) ⌝ }
+{
+    if !all_sized(balance, revision, n) {
+        return wrong();
+    }
+    add_balances(balance, revision, n, wholes)
 }
 
 // Whether nothing stands past the last of n users.
@@ -190,22 +238,22 @@ fn allotted_test<'a>(
     balance: &'a [i64],
     revision: &'a [i64],
     wholes: &mut [i64],
-) -> StateTest
+) -> Tally
     requires { ⌜ (n ≤ USERS) × Lengths (now consumption) (now losses) (now balance) (now revision) × (length (now wholes) ≡ USERS) ⌝ }
     ensures { λ r. ⌜ Found (Allotted measurement n (now (consumption .entry)) (now (losses .entry)) (now (balance .entry)) (now (revision .entry))) (whole-at (now (consumption .entry)) (now (losses .entry)) (now (balance .entry)) (now (revision .entry))) n (now (wholes .entry)) r (now (wholes .exit)) ⌝ }
 {
     if n == 0 {
-        return untaken();
+        return wrong();
     }
     if !state::is_measured(measurement) {
-        return untaken();
+        return wrong();
     }
     if !none_past(consumption, losses, balance, revision, n) {
-        return untaken();
+        return wrong();
     }
     let offtakes = offtakes_test(consumption, losses, n, wholes);
-    if !offtakes.taken {
-        return untaken();
+    if !offtakes.right {
+        return wrong();
     }
     balances_test(balance, revision, n, wholes)
 }
@@ -221,12 +269,12 @@ fn parts_test<'a>(
     balance: &'a [i64],
     revision: &'a [i64],
     wholes: &mut [i64],
-) -> StateTest
+) -> Tally
     requires { ⌜ (length (now users) ≡ USERS) × Lengths (now consumption) (now losses) (now balance) (now revision) × (length (now wholes) ≡ USERS) ⌝ }
-    ensures { λ r. ⌜ ((stage : Stage) → TestedState (point-day stage allotted measurement n (now (users .entry)) (now (consumption .entry)) (now (losses .entry)) (now (balance .entry)) (now (revision .entry))) (now (wholes .entry)) r (now (wholes .exit))) ⌝ }
+    ensures { λ r. ⌜ ((stage : Stage) → TestedParts (point-day stage allotted measurement n (now (users .entry)) (now (consumption .entry)) (now (losses .entry)) (now (balance .entry)) (now (revision .entry))) (now (wholes .entry)) r (now (wholes .exit))) ⌝ }
 {
     if !head_right(measurement, n, users) {
-        return untaken();
+        return wrong();
     }
     if allotted {
         return allotted_test(
@@ -242,60 +290,91 @@ fn parts_test<'a>(
     entering_test(n, consumption, losses, balance, revision, wholes)
 }
 
-// The test of a point-day in parts, at any stage; `wholes` then starts with its whole amounts. The parts are fields of a point-day by
-// value, or parts of a longer list; their lengths are told to the compiler.
+// What the test of a point-day finds: whether it is taken; if so, all that it holds but its amounts, and its users' whole amounts with their
+// sum.
+pub struct StateTest {
+    pub taken: bool,
+    pub stage: Stage,
+    pub allotted: bool,
+    pub measurement: Measurement,
+    pub count: usize,
+    pub users: [u16; USERS],
+    pub wholes: [i64; USERS],
+    pub sum: i64,
+}
+
+// No point-day.
+pub fn untaken() -> StateTest
+    ensures { λ r. ⌜ r .taken ≡ false ⌝ }
+{
+    let users = point_day::no_users();
+    let wholes = point_day::no_amounts();
+    StateTest {
+        taken: false,
+        stage: Stage::Provisional,
+        allotted: false,
+        measurement: Measurement::Unmeasured,
+        count: 0,
+        users: users,
+        wholes: wholes,
+        sum: 0,
+    }
+}
+
+// The test of a point-day in parts: fields of a point-day by value, or parts of a longer list, whose lengths are told to the compiler.
 pub fn test_state<'a>(
+    stage: Stage,
     allotted: bool,
     measurement: Measurement,
-    n: usize,
-    users: &'a [u16],
+    count: usize,
+    users: [u16; USERS],
     consumption: &'a [i64],
     losses: &'a [i64],
     balance: &'a [i64],
     revision: &'a [i64],
-    wholes: &mut [i64],
 ) -> StateTest
-    requires { ⌜ (length (now users) ≡ USERS) × Lengths (now consumption) (now losses) (now balance) (now revision) × (length (now wholes) ≡ USERS) ⌝ }
-    ensures { λ r. ⌜ ((stage : Stage) → TestedState (point-day stage allotted measurement n (now (users .entry)) (now (consumption .entry)) (now (losses .entry)) (now (balance .entry)) (now (revision .entry))) (now (wholes .entry)) r (now (wholes .exit))) ⌝ }
+    requires { ⌜ Lengths (now consumption) (now losses) (now balance) (now revision) ⌝ }
+    ensures { λ r. ⌜ StateOf (point-day stage allotted measurement count users (now (consumption .entry)) (now (losses .entry)) (now (balance .entry)) (now (revision .entry))) r ⌝ }
 {
-    parts_test(
+    let mut wholes = point_day::no_amounts();
+    let tally = parts_test(
         allotted,
         measurement,
-        n,
-        &users[..USERS],
+        count,
+        &users,
         &consumption[..CELLS],
         &losses[..CELLS],
         &balance[..CELLS],
         &revision[..USERS],
-        wholes,
-    )
+        &mut wholes,
+    );
+    StateTest {
+        taken: tally.right,
+        stage: stage,
+        allotted: allotted,
+        measurement: measurement,
+        count: count,
+        users: users,
+        wholes: wholes,
+        sum: tally.sum,
+    }
 }
 
-// The test of a point-day by value; `wholes` then starts with its whole amounts.
-pub fn test_day(day: PointDay, wholes: &mut [i64]) -> StateTest
-    requires { ⌜ length (now wholes) ≡ USERS ⌝ }
-    ensures { λ r. ⌜ TestedState day (now (wholes .entry)) r (now (wholes .exit)) ⌝ }
+// The test of a point-day by value.
+pub fn test_day(day: PointDay) -> StateTest
+    ensures { λ r. ⌜ StateOf day r ⌝ }
 {
     test_state(
+        day.stage,
         day.allotted,
         day.measurement,
         day.count,
-        &day.users,
+        day.users,
         &day.consumption,
         &day.losses,
         &day.balance,
         &day.revision,
-        wholes,
     )
-}
-
-// Whether a point-day is taken.
-pub fn is_taken(day: PointDay) -> bool
-    ensures { λ r. ⌜ IsTaken day r ⌝ }
-{
-    let mut wholes = point_day::no_amounts();
-    let test = test_day(day, &mut wholes);
-    test.taken
 }
 
 // Refusal 12: whether a whole amount is too large.

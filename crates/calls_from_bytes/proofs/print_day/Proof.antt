@@ -13,8 +13,8 @@ use Rattle.calls_from_bytes.proofs.print_day.Tie as tie
 shown : (d : PointDay) {b : Bool} → b ≡ taken d → not b ≡ false → Taken d
 shown d {b} e t = taken-facts d (sym e ∙ not-false b t)
 
-is-taken-requires : tie.Need-is-taken-requires
-is-taken-requires c κs = search needs
+test-day-requires : tie.Need-test-day-requires
+test-day-requires c κs = search needs
 
 refused-requires : tie.Need-refused-requires
 refused-requires c κs = search needs
@@ -42,14 +42,14 @@ number-requires c κs = search needs
 
 print-measurement-requires : tie.Need-print-measurement-requires
 print-measurement-requires c κs =
-    shown (c .before .before .before .before .before .args .day) (c .before .before .before .before .is-taken .ensures .is) (c .before .before .before .if1 .left) .measurement
+    shown (c .before .before .before .before .before .before .args .day) (c .before .before .before .before .before .test-day .ensures .is) (c .before .before .before .if1 .left) .measurement
 
 end-requires : tie.Need-end-requires
 end-requires c κs = search needs
 
 print-users-requires : tie.Need-print-users-requires
 print-users-requires c κs =
-    shown (c .before .before .before .before .before .before .before .args .day) (c .before .before .before .before .before .before .is-taken .ensures .is) (c .before .before .before .before .before .if1 .left) .few
+    shown (c .before .before .before .before .before .before .before .before .args .day) (c .before .before .before .before .before .before .before .test-day .ensures .is) (c .before .before .before .before .before .if1 .left) .few
 
 returns-2 : tie.Need-returns-2
 returns-2 c = search needs
@@ -58,7 +58,7 @@ pub print-day-spec : {M : Type 1} → statement M
 print-day-spec =
     tie.close
     (tie.spec
-    is-taken-requires
+    test-day-requires
     refused-requires
     returns
     print-stage-requires

@@ -27,7 +27,7 @@ use Rattle.point_day.proofs.Back.{map-table, read-full, read-count, every-take,
 use Rattle.point_day.proofs.Each.{all-at, zip-at, anything}
 use Rattle.point_day.proofs.Sound.{Bare, Sound, taken-sound}
 use Rattle.point_day.proofs.Wholes.{length-weights, kinds-sum, whole-share, shares-long, allot-shares, allot-sizes, balance-size}
-use Rattle.point_day.proofs.Weights.{balanced-long}
+use Rattle.point_day.proofs.Counts.{balanced-long}
 use Rattle.allot.specs.Shared.{shares-of}
 use Rattle.allot.proofs.Outcomes.{users-are, shares-day as day-shares, allot-laid}
 use Rattle.day_book.specs.Run.{allot}

@@ -8,14 +8,15 @@ use mir.Val.{SFits}
 use mir.Facts.{toZ-ofZ}
 use borrow.Author.Needs.{needs}
 use Rattle.point_day.specs.Limits.{TOLERANCE}
-use Rattle.point_day.specs.Answers.{within-tolerance}
+use Rattle.point_day.specs.Answers.{refused, within-tolerance}
 use Rattle.point_day.specs.Calls.{revise}
 use Rattle.point_day.specs.Struct.{outcome, called}
-use Rattle.revise.specs.Revised.{Assigns}
-use Rattle.plain_day.specs.Layout.{day-in}
+use Rattle.revise.specs.Revised.{Tested}
+use Rattle.revise.specs.declared.ReviseTest.the-variants.{Refused, Within, Assigned}
 use Rattle.plain_day.proofs.Ranges.{laid-length}
-use Rattle.in_place.specs.Found.{Refuses, Passes}
+use Rattle.in_place.specs.Found.{FindsIn}
 use Rattle.in_place.proofs.Effects as effect
+use Rattle.in_place.proofs.Taken.{revise-refusal, within-passes, assigned-passes, refused-by, passed}
 use Rattle.in_place.proofs.revise.Statement.{statement}
 use Rattle.in_place.proofs.revise.Tie as tie
 
@@ -47,8 +48,8 @@ put-requires : tie.Need-put-requires
 put-requires c κs =
     let xs = c .before .before .before .before .before .before .before .before .before .before .args .day .now in
     let t = c .before .before .before .test3 .given in
-    let A : Passes xs (Assigns TOLERANCE (day-in xs) (t .0 .0) _) = rw (t .1) at (c .before .before .before .before .before .before .revise-tests .ensures) in
-    omega (arith, laid-length xs (A .readable))
+    let f : FindsIn xs (Assigned (t .0 .0) ≡ Refused 2) (λ d. Tested TOLERANCE d (Assigned (t .0 .0)) _) = rw (t .1) at (c .before .before .before .before .before .before .revise-tests .ensures) in
+    omega (arith, laid-length xs (passed f assigned-passes .0))
 
 give-revision-requires-2 : tie.Need-give-revision-requires-2
 give-revision-requires-2 c κs = search needs
@@ -60,8 +61,8 @@ returns : tie.Need-returns
 returns c =
     let a = c .before .before .before .before .before .before .before .before .args in
     let t = c .before .test .given in
-    let f : Refuses (called (revise TOLERANCE)) (a .day .now) (t .0 .0) = rw (t .1) at (c .before .before .before .before .revise-tests .ensures) in
-    f (pos (a .within .now) ∷ a .amount .now ∷ [])
+    let f : FindsIn (a .day .now) (Refused (t .0 .0) ≡ Refused 2) (λ d. outcome (refused (t .0 .0)) d ≡ called (revise TOLERANCE) d) = rw (t .1) at (c .before .before .before .before .revise-tests .ensures) in
+    refused-by f (revise TOLERANCE) (pos (a .within .now) ∷ a .amount .now ∷ []) (t .0 .0) revise-refusal (λ d o. o)
 
 same-length-2 : tie.Need-same-length-2
 same-length-2 c = search needs
@@ -69,12 +70,12 @@ same-length-2 c = search needs
 returns-2 : tie.Need-returns-2
 returns-2 c =
     let a = c .before .before .before .before .before .before .before .before .before .before .before .args in
-    let xs = a .day .now in
     let t = c .before .before .before .before .test2 .given in
+    let f : FindsIn (a .day .now) (Within (t .0 .0) ≡ Refused 2) (λ d. outcome (within-tolerance (t .0 .0)) d ≡ called (revise TOLERANCE) d) = rw (t .1) at (c .before .before .before .before .before .before .before .revise-tests .ensures) in
+    let p = passed f within-passes in
     let h : SFits w64 (t .0 .0) = search needs in
-    let W : Passes xs (outcome (within-tolerance (t .0 .0)) (day-in xs) ≡ called (revise TOLERANCE) (day-in xs)) = rw (t .1) at (c .before .before .before .before .before .before .before .revise-tests .ensures) in
     let g = c .give-revision .ensures in
-    effect.within xs (W .readable) (pos (a .within .now) ∷ a .amount .now ∷ []) (t .0 .0) (W .holds) (g .0) (g .1) (g .2 ∙ toZ-ofZ h)
+    effect.within (a .day .now) (p .0) (pos (a .within .now) ∷ a .amount .now ∷ []) (t .0 .0) (p .1) (g .0) (g .1) (g .2 ∙ toZ-ofZ h)
 
 same-length-3 : tie.Need-same-length-3
 same-length-3 c = search needs
@@ -82,12 +83,12 @@ same-length-3 c = search needs
 returns-3 : tie.Need-returns-3
 returns-3 c =
     let a = c .before .before .before .before .before .before .before .before .before .before .before .before .before .before .before .args in
-    let xs = a .day .now in
     let t = c .before .before .before .before .before .before .before .before .test3 .given in
+    let f : FindsIn (a .day .now) (Assigned (t .0 .0) ≡ Refused 2) (λ d. Tested TOLERANCE d (Assigned (t .0 .0)) _) = rw (t .1) at (c .before .before .before .before .before .before .before .before .before .before .before .revise-tests .ensures) in
+    let p = passed f assigned-passes in
     let h : SFits w64 (t .0 .0) = search needs in
-    let A : Passes xs (Assigns TOLERANCE (day-in xs) (t .0 .0) _) = rw (t .1) at (c .before .before .before .before .before .before .before .before .before .before .before .revise-tests .ensures) in
     let g = c .give-revision2 .ensures in
-    effect.assigns xs (A .readable) (pos (a .within .now) ∷ a .amount .now ∷ []) (t .0 .0) _ (search needs) (A .holds) (g .0) (g .1) (g .2 ∙ toZ-ofZ h) (c .before .before .before .before .put .ensures)
+    effect.assigns (a .day .now) (p .0) (pos (a .within .now) ∷ a .amount .now ∷ []) (t .0 .0) _ (search needs) (p .1) (g .0) (g .1) (g .2 ∙ toZ-ofZ h) (c .before .before .before .before .put .ensures)
 
 pub revise-spec : {M : Type 1} → statement M
 revise-spec =

@@ -1,8 +1,11 @@
 -- `plain_day::test_read` meets its contract: its parts are those of the point-day. Assumes nothing.
-use Rattle.plain_day.specs.Layout.{stage-in, day-in}
 use borrow.Author.Needs.{needs}
+use Rattle.plain_day.specs.Layout.{day-in}
 use Rattle.plain_day.proofs.test_read.Statement.{statement}
 use Rattle.plain_day.proofs.test_read.Tie as tie
+
+stage-in-requires : tie.Need-stage-in-requires
+stage-in-requires c κs = search needs
 
 allotted-in-requires : tie.Need-allotted-in-requires
 allotted-in-requires c κs = search needs
@@ -52,17 +55,15 @@ part-test-state-end-4 c = search needs
 test-state-requires : tie.Need-test-state-requires
 test-state-requires c κs = search needs
 
-same-length : tie.Need-same-length
-same-length c = search needs
-
 returns : tie.Need-returns
 unfolding day-in
-returns c = rw (c .before .before .before .before .before .before .before .before .before .allotted-in .ensures, c .before .before .before .before .before .before .before .before .measurement-in .ensures, c .before .before .before .before .before .before .before .count-in .ensures, c .before .before .before .before .before .before .before .before .before .before .before .pre .2) at (c .before .test-state .ensures (stage-in (c .before .before .before .before .before .before .before .before .before .before .before .args .day .now)))
+returns c = rw (c .before .before .before .before .before .before .before .before .stage-in .ensures, c .before .before .before .before .before .before .before .allotted-in .ensures, c .before .before .before .before .before .before .measurement-in .ensures, c .before .before .before .before .before .count-in .ensures, c .before .before .before .before .before .before .before .before .before .pre .1) at (c .test-state .ensures)
 
 pub test-read-spec : {M : Type 1} → statement M
 test-read-spec =
     tie.close
     (tie.spec
+    stage-in-requires
     allotted-in-requires
     measurement-in-requires
     count-in-requires
@@ -79,5 +80,4 @@ test-read-spec =
     part-test-state-start-4
     part-test-state-end-4
     test-state-requires
-    same-length
     returns)

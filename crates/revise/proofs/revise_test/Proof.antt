@@ -1,10 +1,10 @@
--- `revise::revise_test` meets its contract, outcome by outcome, on any point-day that has these parts. Assumes nothing.
+-- `revise::revise_test` meets its contract, outcome by outcome, on any point-day of which this is the test. Assumes nothing.
 use mathlib.Core.List.{zipWith}
-use mathlib.Core.Path.{_≡_, sym, ap, ap₂, _∙_}
-use mathlib.Core.Bool.{true}
+use mathlib.Core.Path.{_≡_, refl, sym, ap, ap₂, _∙_}
 use native.Mathlib.Omega.{arith}
 use lib.Dec.{lit<}
 use lib.IntN.{pos, _+ℤ_}
+use lib.ListN.{length}
 use mir.Syntax.{w64}
 use mir.Val.{toZ, ofZ}
 use borrow.Author.Needs.{needs}
@@ -14,68 +14,58 @@ use Rattle.numbers.proofs.Amounts.{back}
 use Rattle.point_day.specs.Limits.{USERS}
 use Rattle.point_day.specs.Day.{no-more, provisional}
 use Rattle.point_day.specs.Calls.{within-tolerance, negative}
-use Rattle.point_day.specs.Struct.{padded, taken, outcome}
+use Rattle.point_day.specs.Struct.{padded, outcome}
 use Rattle.point_day.proofs.Called.{called-untaken}
 use Rattle.point_day.proofs.Taken.{taken-facts}
-use Rattle.taken.proofs.Facts.{facts, sum-kept}
+use Rattle.taken.proofs.Facts.{found, not-found, known-few}
 use Rattle.taken.specs.Tested.{any-large}
-use Rattle.revise.specs.Revised.{with-rest}
 use Rattle.revise.specs.Revisions.{outstanding}
-use Rattle.revise.proofs.outstanding.Columns.{users-long, filled, wholes-are, wholes-long, numbered-are, numbered-small, weights-sum, sum-safe, shares-are, outstanding-is, revisions-small}
+use Rattle.revise.proofs.outstanding.Columns.{open-is, users-long, apart, filled, held-right, held-safe, outstanding-is, wholes-are, wholes-long, wholes-reach, numbered-are, numbered-small, weights-sum, shares-are, revisions-small}
 use Rattle.revise.proofs.Revising.{revise-1, revise-within, revise-11, revise-12, revise-done}
 use Rattle.revise.proofs.revise_test.Statement.{statement}
 use Rattle.revise.proofs.revise_test.Tie as tie
 
 returns : tie.Need-returns
-returns c x = called-untaken _ (with-rest x) (sym (x .tested .state .taken .is) ∙ not-true _ (c .if1 .taken))
+returns c = not-found (not-true _ (c .if1 .taken)) refl (λ d e z. called-untaken _ d e)
 
 is-revisable-requires : tie.Need-is-revisable-requires
 is-revisable-requires c κs = search needs
 
 returns-2 : tie.Need-returns-2
-returns-2 c x =
-    let s = x .tested .state in
-    revise-1 (with-rest x) (s .taken .sized) (sym (s .taken .is) ∙ not-false _ (c .before .before .if1 .left)) (c .before .before .before .before .before .args .tolerance) (sym (c .before .is-revisable .ensures) ∙ not-true _ (c .if2 .taken))
+returns-2 c =
+    found (not-false _ (c .before .before .before .if1 .left))
+    (λ d k z.
+    revise-1 d (k .sized) (k .is-taken) (c .before .before .before .before .before .args .tolerance) (open-is k ∙ sym (c .before .is-revisable .ensures) ∙ not-true _ (c .if2 .taken)))
 
 outstanding-requires : tie.Need-outstanding-requires
 outstanding-requires c κs =
-    let x = c .before .before .before .before .before .before .pre .0 in
-    let d = with-rest x in
-    let s = x .tested .state in
-    let k = not-false _ (c .before .before .before .if1 .left) in
-    let t : taken d ≡ true = sym (s .taken .is) ∙ k in
-    let F = taken-facts d t in
-    (F .measurement, rw (sum-kept d (s .taken .sized) t (s .sum k)) (F .sum))
+    let x = c .before .before .before .before .before .before .pre .0 (not-false _ (c .before .before .before .before .if1 .left)) in
+    let k = x .holds .known in
+    (rw (← k .measurement) (taken-facts (x .day) (k .is-taken) .measurement), held-right k)
 
 size-at-most-requires : tie.Need-size-at-most-requires
 size-at-most-requires c κs = search needs
 
 returns-3 : tie.Need-returns-3
-returns-3 c x =
-    let d = with-rest x in
-    let s = x .tested .state in
-    let z = s .taken .sized in
-    let k = not-false _ (c .before .before .before .before .before .before .if1 .left) in
-    let t : taken d ≡ true = sym (s .taken .is) ∙ k in
-    let o = sym (c .before .before .before .before .before .is-revisable .ensures) ∙ not-false _ (c .before .before .before .before .if2 .left) in
+returns-3 c =
+    found (not-false _ (c .before .before .before .before .before .before .before .if1 .left))
+    (λ d k z.
+    let a = c .before .before .before .before .before .before .before .before .before .args in
+    let o = open-is k ∙ sym (c .before .before .before .before .before .is-revisable .ensures) ∙ not-false _ (c .before .before .before .before .if2 .left) in
     let q = c .before .before .outstanding in
-    let R : toZ w64 (ofZ w64 (q .result)) ≡ outstanding d = back (q .ensures .1) (lit< tt) ∙ q .ensures .0 ∙ outstanding-is d z t (sum-kept d z t (s .sum k)) in
-    let m = sym (ap (no-more (c .before .before .before .before .before .before .before .before .before .args .tolerance)) R) ∙ sym (c .before .size-at-most .ensures) in
-    ap (λ y. outcome (within-tolerance y) d) R ∙ revise-within d z t (c .before .before .before .before .before .before .before .before .before .args .tolerance) o (m ∙ c .if3 .taken)
+    let R : toZ w64 (ofZ w64 (q .result)) ≡ outstanding d = back (q .ensures .1) (lit< tt) ∙ q .ensures .0 ∙ outstanding-is k in
+    let m = sym (ap (no-more (a .tolerance)) R) ∙ sym (c .before .size-at-most .ensures) in
+    ap (λ y. outcome (within-tolerance y) d) R ∙ revise-within d (k .sized) (k .is-taken) (a .tolerance) o (m ∙ c .if3 .taken))
 
 slice-reshare-prefix-any-negative : tie.Need-slice-reshare-prefix-any-negative
 slice-reshare-prefix-any-negative c =
-    let x = c .before .before .before .before .before .before .before .before .before .pre .0 in
-    let s = x .tested .state in
-    let k = not-false _ (c .before .before .before .before .before .before .if1 .left) in
-    omega (arith, taken-facts (with-rest x) (sym (s .taken .is) ∙ k) .few, c .before .before .before .before .before .before .before .before .before .pre .1)
+    let s = c .before .before .before .before .before .before .before .before .before in
+    wholes-reach (s .pre .0 (not-false _ (c .before .before .before .before .before .before .before .if1 .left)) .holds .known) (s .pre .1)
 
 slice-aggregate-any-negative : tie.Need-slice-aggregate-any-negative
 slice-aggregate-any-negative c =
-    let x = c .before .before .before .before .before .before .before .before .before .before .pre .0 in
-    let s = x .tested .state in
-    let k = not-false _ (c .before .before .before .before .before .before .before .if1 .left) in
-    sym (wholes-long (with-rest x) (s .taken .sized) (sym (s .taken .is) ∙ k) (x .before) (x .tested .wholes k))
+    let s = c .before .before .before .before .before .before .before .before .before .before in
+    sym (wholes-long (s .pre .0 (not-false _ (c .before .before .before .before .before .before .before .before .if1 .left)) .holds .known) (s .pre .1))
 
 any-negative-requires : tie.Need-any-negative-requires
 any-negative-requires c κs = search needs
@@ -84,104 +74,89 @@ same-length : tie.Need-same-length
 same-length c = search needs
 
 returns-4 : tie.Need-returns-4
-returns-4 c x =
-    let d = with-rest x in
-    let s = x .tested .state in
-    let z = s .taken .sized in
-    let k = not-false _ (c .before .before .before .before .before .before .before .before .before .if1 .left) in
-    let t : taken d ≡ true = sym (s .taken .is) ∙ k in
-    let o = sym (c .before .before .before .before .before .before .before .before .is-revisable .ensures) ∙ not-false _ (c .before .before .before .before .before .before .before .if2 .left) in
+returns-4 c =
+    found (not-false _ (c .before .before .before .before .before .before .before .before .before .before .if1 .left))
+    (λ d k z.
+    let s = c .before .before .before .before .before .before .before .before .before .before .before .before in
+    let o = open-is k ∙ sym (c .before .before .before .before .before .before .before .before .is-revisable .ensures) ∙ not-false _ (c .before .before .before .before .before .before .before .if2 .left) in
     let q = c .before .before .before .before .before .outstanding in
-    let R : toZ w64 (ofZ w64 (q .result)) ≡ outstanding d = back (q .ensures .1) (lit< tt) ∙ q .ensures .0 ∙ outstanding-is d z t (sum-kept d z t (s .sum k)) in
-    let m = sym (ap (no-more (c .before .before .before .before .before .before .before .before .before .before .before .before .args .tolerance)) R) ∙ sym (c .before .before .before .before .size-at-most .ensures) in
-    let n = sym (ap negative (wholes-are d z t (x .before) (x .tested .wholes k))) ∙ sym (c .before .any-negative .ensures) in
-    revise-11 d z t (c .before .before .before .before .before .before .before .before .before .before .before .before .args .tolerance) o (m ∙ c .before .before .before .if3 .left) (n ∙ c .if4 .taken)
+    let R : toZ w64 (ofZ w64 (q .result)) ≡ outstanding d = back (q .ensures .1) (lit< tt) ∙ q .ensures .0 ∙ outstanding-is k in
+    let m = sym (ap (no-more (s .args .tolerance)) R) ∙ sym (c .before .before .before .before .size-at-most .ensures) in
+    let n = sym (ap negative (wholes-are k (s .pre .1))) ∙ sym (c .before .any-negative .ensures) in
+    revise-11 d (k .sized) (k .is-taken) (s .args .tolerance) o (m ∙ c .before .before .before .if3 .left) (n ∙ c .if4 .taken))
 
 size-requires : tie.Need-size-requires
-size-requires c κs =
-    let x = c .before .before .before .before .before .before .before .before .before .before .before .before .before .pre .0 in
-    let d = with-rest x in
-    let s = x .tested .state in
-    let k = not-false _ (c .before .before .before .before .before .before .before .before .before .before .if1 .left) in
-    let t : taken d ≡ true = sym (s .taken .is) ∙ k in
-    sum-safe d (s .taken .sized) t (sum-kept d (s .taken .sized) t (s .sum k))
+size-requires c κs = held-safe (c .before .before .before .before .before .before .before .before .before .before .before .before .before .pre .0 (not-false _ (c .before .before .before .before .before .before .before .before .before .before .before .if1 .left)) .holds .known)
+
+array-share-prefix-users : tie.Need-array-share-prefix-users
+array-share-prefix-users c =
+    let k = c .before .before .before .before .before .before .before .before .before .before .before .before .before .before .pre .0 (not-false _ (c .before .before .before .before .before .before .before .before .before .before .before .before .if1 .left)) .holds .known in
+    omega (arith, known-few k, ap length (k .users), k .sized .users)
 
 slice-aggregate-assign : tie.Need-slice-aggregate-assign
-slice-aggregate-assign c =
-    let x = c .before .before .before .before .before .before .before .before .before .before .before .before .before .before .before .pre .0 in
-    let s = x .tested .state in
-    sym (users-long (with-rest x) (s .taken .sized) (sym (s .taken .is) ∙ not-false _ (c .before .before .before .before .before .before .before .before .before .before .before .before .if1 .left)))
+slice-aggregate-assign c = sym (users-long (c .before .before .before .before .before .before .before .before .before .before .before .before .before .before .before .pre .0 (not-false _ (c .before .before .before .before .before .before .before .before .before .before .before .before .before .if1 .left)) .holds .known))
 
 assign-requires : tie.Need-assign-requires
 assign-requires c κs =
-    let x = c .before .before .before .before .before .before .before .before .before .before .before .before .before .before .before .before .pre .0 in
-    let d = with-rest x in
-    let s = x .tested .state in
-    let z = s .taken .sized in
-    let k = not-false _ (c .before .before .before .before .before .before .before .before .before .before .before .before .before .if1 .left) in
-    let t : taken d ≡ true = sym (s .taken .is) ∙ k in
+    let s = c .before .before .before .before .before .before .before .before .before .before .before .before .before .before .before .before in
+    let h = s .pre .0 (not-false _ (c .before .before .before .before .before .before .before .before .before .before .before .before .before .before .if1 .left)) .holds in
+    let k = h .known in
     let o = sym (c .before .before .before .before .before .before .before .before .before .before .before .before .is-revisable .ensures) ∙ not-false _ (c .before .before .before .before .before .before .before .before .before .before .before .if2 .left) in
-    let S = sum-kept d z t (s .sum k) in
-    let w = x .tested .wholes k in
-    let n = sym (ap negative (wholes-are d z t (x .before) w)) ∙ sym (c .before .before .before .before .before .any-negative .ensures) ∙ c .before .before .before .before .if4 .left in
+    let n = sym (ap negative (wholes-are k (s .pre .1))) ∙ sym (c .before .before .before .before .before .any-negative .ensures) ∙ c .before .before .before .before .if4 .left in
     let r = c .before .before .before .before .before .before .before .before .before .outstanding .ensures .1 in
-    let u = users-long d z t in
-    let F = facts d z t in
+    let u = users-long k in
+    let l : length (s .args .state .wholes) ≡ USERS = search needs in
     record {
       amount = rw (back r (lit< tt)) r;
-      sum = c .before .before .size .ensures ∙ weights-sum d z t (x .before) w n S;
-      some = omega (arith, u, filled d z t (both-snd (provisional (c .before .before .before .before .before .before .before .before .before .before .before .before .before .before .before .before .args .stage)) _ o));
-      few = omega (arith, u, F .few);
-      apart = F .apart;
-      revisions-long = z .revision;
-      column-long = c .before .before .before .before .before .before .before .before .before .before .before .before .before .before .before .before .pre .1;
-      revisions = revisions-small d z t;
-      wholes = numbered-small d z t (x .before) w;
+      sum = c .before .before .size .ensures ∙ weights-sum k (s .pre .1) n;
+      some = omega (arith, u, filled k (both-snd (provisional (s .args .state .stage)) _ o));
+      few = omega (arith, u, known-few k);
+      apart = apart k;
+      revisions-long = rw (← h .revision) (k .sized .revision);
+      column-long = ap length (s .pre .1) ∙ l;
+      revisions = rw (← h .revision) (revisions-small k);
+      wholes = numbered-small k (s .pre .1);
     }
 
 same-length-2 : tie.Need-same-length-2
 same-length-2 c = search needs
 
 returns-5 : tie.Need-returns-5
-returns-5 c x =
-    let d = with-rest x in
-    let s = x .tested .state in
-    let z = s .taken .sized in
-    let k = not-false _ (c .before .before .before .before .before .before .before .before .before .before .before .before .before .before .before .before .if1 .left) in
-    let t : taken d ≡ true = sym (s .taken .is) ∙ k in
-    let o = sym (c .before .before .before .before .before .before .before .before .before .before .before .before .before .before .before .is-revisable .ensures) ∙ not-false _ (c .before .before .before .before .before .before .before .before .before .before .before .before .before .before .if2 .left) in
+returns-5 c =
+    found (not-false _ (c .before .before .before .before .before .before .before .before .before .before .before .before .before .before .before .before .before .if1 .left))
+    (λ d k z.
+    let s = c .before .before .before .before .before .before .before .before .before .before .before .before .before .before .before .before .before .before .before in
+    let o = open-is k ∙ sym (c .before .before .before .before .before .before .before .before .before .before .before .before .before .before .before .is-revisable .ensures) ∙ not-false _ (c .before .before .before .before .before .before .before .before .before .before .before .before .before .before .if2 .left) in
     let q = c .before .before .before .before .before .before .before .before .before .before .before .before .outstanding in
-    let R : toZ w64 (ofZ w64 (q .result)) ≡ outstanding d = back (q .ensures .1) (lit< tt) ∙ q .ensures .0 ∙ outstanding-is d z t (sum-kept d z t (s .sum k)) in
-    let m = sym (ap (no-more (c .before .before .before .before .before .before .before .before .before .before .before .before .before .before .before .before .before .before .before .args .tolerance)) R) ∙ sym (c .before .before .before .before .before .before .before .before .before .before .before .size-at-most .ensures) in
-    let w = x .tested .wholes k in
-    let n = sym (ap negative (wholes-are d z t (x .before) w)) ∙ sym (c .before .before .before .before .before .before .before .before .any-negative .ensures) in
+    let R : toZ w64 (ofZ w64 (q .result)) ≡ outstanding d = back (q .ensures .1) (lit< tt) ∙ q .ensures .0 ∙ outstanding-is k in
+    let m = sym (ap (no-more (s .args .tolerance)) R) ∙ sym (c .before .before .before .before .before .before .before .before .before .before .before .size-at-most .ensures) in
+    let n = sym (ap negative (wholes-are k (s .pre .1))) ∙ sym (c .before .before .before .before .before .before .before .before .any-negative .ensures) in
     let A = c .before .before .assign .ensures in
-    let g = shares-are d z t (x .before) w R in
-    let W = sym (ap₂ (λ x y. any-large (zipWith _+ℤ_ x y)) (numbered-are d z t (x .before) w) g) in
-    revise-12 d z t (c .before .before .before .before .before .before .before .before .before .before .before .before .before .before .before .before .before .before .before .args .tolerance) o (m ∙ c .before .before .before .before .before .before .before .before .before .before .if3 .left) (n ∙ c .before .before .before .before .before .before .before .if4 .left) (W ∙ not-false _ (sym (A .is) ∙ not-true _ (c .if5 .taken)))
+    let W = sym (ap₂ (λ x y. any-large (zipWith _+ℤ_ x y)) (numbered-are k (s .pre .1)) (shares-are k (s .pre .1) R)) in
+    revise-12 d (k .sized) (k .is-taken) (s .args .tolerance) o (m ∙ c .before .before .before .before .before .before .before .before .before .before .if3 .left) (n ∙ c .before .before .before .before .before .before .before .if4 .left) (W ∙ not-false _ (sym (A .is) ∙ not-true _ (c .if5 .taken))))
 
 same-length-3 : tie.Need-same-length-3
 same-length-3 c = search needs
 
 returns-6 : tie.Need-returns-6
-returns-6 c x =
-    let d = with-rest x in
-    let s = x .tested .state in
-    let z = s .taken .sized in
-    let k = not-false _ (c .before .before .before .before .before .before .before .before .before .before .before .before .before .before .before .before .if1 .left) in
-    let t : taken d ≡ true = sym (s .taken .is) ∙ k in
-    let o = sym (c .before .before .before .before .before .before .before .before .before .before .before .before .before .before .before .is-revisable .ensures) ∙ not-false _ (c .before .before .before .before .before .before .before .before .before .before .before .before .before .before .if2 .left) in
+returns-6 c =
+    found (not-false _ (c .before .before .before .before .before .before .before .before .before .before .before .before .before .before .before .before .before .if1 .left))
+    (λ d k z.
+    let s = c .before .before .before .before .before .before .before .before .before .before .before .before .before .before .before .before .before .before .before in
+    let o = open-is k ∙ sym (c .before .before .before .before .before .before .before .before .before .before .before .before .before .before .before .is-revisable .ensures) ∙ not-false _ (c .before .before .before .before .before .before .before .before .before .before .before .before .before .before .if2 .left) in
     let q = c .before .before .before .before .before .before .before .before .before .before .before .before .outstanding in
-    let R : toZ w64 (ofZ w64 (q .result)) ≡ outstanding d = back (q .ensures .1) (lit< tt) ∙ q .ensures .0 ∙ outstanding-is d z t (sum-kept d z t (s .sum k)) in
-    let m = sym (ap (no-more (c .before .before .before .before .before .before .before .before .before .before .before .before .before .before .before .before .before .before .before .args .tolerance)) R) ∙ sym (c .before .before .before .before .before .before .before .before .before .before .before .size-at-most .ensures) in
-    let w = x .tested .wholes k in
-    let n = sym (ap negative (wholes-are d z t (x .before) w)) ∙ sym (c .before .before .before .before .before .before .before .before .any-negative .ensures) in
+    let R : toZ w64 (ofZ w64 (q .result)) ≡ outstanding d = back (q .ensures .1) (lit< tt) ∙ q .ensures .0 ∙ outstanding-is k in
+    let m = sym (ap (no-more (s .args .tolerance)) R) ∙ sym (c .before .before .before .before .before .before .before .before .before .before .before .size-at-most .ensures) in
+    let n = sym (ap negative (wholes-are k (s .pre .1))) ∙ sym (c .before .before .before .before .before .before .before .before .any-negative .ensures) in
     let A = c .before .before .assign .ensures in
-    let g = shares-are d z t (x .before) w R in
-    let W = sym (ap₂ (λ x y. any-large (zipWith _+ℤ_ x y)) (numbered-are d z t (x .before) w) g) in
+    let g = shares-are k (s .pre .1) R in
+    let W = sym (ap₂ (λ x y. any-large (zipWith _+ℤ_ x y)) (numbered-are k (s .pre .1)) g) in
     let y = not-false _ (c .if5 .left) in
-    let v = A .revisions y ∙ ap (λ y. zipWith _+ℤ_ (c .before .before .before .before .before .before .before .before .before .before .before .before .before .before .before .before .before .before .before .args .revision .now) (padded USERS (pos 0) y)) g in
-    record { is = revise-done d z t (c .before .before .before .before .before .before .before .before .before .before .before .before .before .before .before .before .before .before .before .args .tolerance) o (m ∙ c .before .before .before .before .before .before .before .before .before .before .if3 .left) (n ∙ c .before .before .before .before .before .before .before .if4 .left) (W ∙ not-true _ (sym (A .is) ∙ y)) R v; taken = t }
+    let v = A .revisions y ∙ ap₂ (λ x y. zipWith _+ℤ_ x (padded USERS (pos 0) y)) (sym z) g in
+    record {
+      is = revise-done d (k .sized) (k .is-taken) (s .args .tolerance) o (m ∙ c .before .before .before .before .before .before .before .before .before .before .if3 .left) (n ∙ c .before .before .before .before .before .before .before .if4 .left) (W ∙ not-true _ (sym (A .is) ∙ y)) R v;
+      taken = k .is-taken;
+    })
 
 pub revise-test-spec : {M : Type 1} → statement M
 revise-test-spec =
@@ -199,6 +174,7 @@ revise-test-spec =
     same-length
     returns-4
     size-requires
+    array-share-prefix-users
     slice-aggregate-assign
     assign-requires
     same-length-2

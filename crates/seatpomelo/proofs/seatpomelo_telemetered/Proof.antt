@@ -7,8 +7,8 @@ use borrow.Author.Tests.{eq-eqb, ne-eqb}
 use Rattle.history.specs.History.{ENTRIES}
 use Rattle.telemetered.specs.Telemetered.{answer-of}
 use Rattle.seatpomelo.specs.Settled.{settles, estimate-numbers}
-use Rattle.seatpomelo.specs.Lists.{amount-in, own-of, flows-in, entries-in}
-use Rattle.seatpomelo.proofs.lists.Optional.{same-answer, too-long, all-entries}
+use Rattle.plain_values.specs.Lists.{amount-in, own-of, flows-in, entries-in}
+use Rattle.plain_values.proofs.Optional.{same-answer, too-long, all-entries}
 use native.Mathlib.Omega.{arith}
 use borrow.Author.Needs.{needs}
 use Rattle.seatpomelo.proofs.seatpomelo_telemetered.Statement.{statement}

@@ -19,7 +19,7 @@ use Rattle.point_day.specs.declared.PointDay.{PointDay}
 use Rattle.point_day.proofs.Taken.{taken-facts}
 use Rattle.point_day.proofs.Back.{laid-read}
 use Rattle.point_day.proofs.Wholes.{newcomer, opened-long}
-use Rattle.point_day.proofs.Weights.{opened-count}
+use Rattle.point_day.proofs.Counts.{opened-count}
 use Rattle.columns.proofs.Padding.{padded-over, padded-every, padded-none}
 use Rattle.taken.specs.Tested.{any-large}
 use Rattle.stand_in.specs.Openings.{row-shares, opened-with}

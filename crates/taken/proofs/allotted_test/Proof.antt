@@ -9,43 +9,43 @@ use Rattle.taken.proofs.Parts.{found-none, column-at, column-long, allo
 use Rattle.taken.proofs.allotted_test.Statement.{statement}
 use Rattle.taken.proofs.allotted_test.Tie as tie
 
-untaken-requires : tie.Need-untaken-requires
-untaken-requires c κs = search needs
+wrong-requires : tie.Need-wrong-requires
+wrong-requires c κs = search needs
 
 returns : tie.Need-returns
-returns c = found-none (c .untaken .ensures) (λ p. p .users (c .before .if1 .taken))
+returns c = found-none (c .wrong .ensures) (λ p. p .users (c .before .if1 .taken))
 
 is-measured-requires : tie.Need-is-measured-requires
 is-measured-requires c κs = search needs
 
-untaken-requires-2 : tie.Need-untaken-requires-2
-untaken-requires-2 c κs = search needs
+wrong-requires-2 : tie.Need-wrong-requires-2
+wrong-requires-2 c κs = search needs
 
 returns-2 : tie.Need-returns-2
-returns-2 c = found-none (c .untaken2 .ensures) (λ p. true≢false (sym (p .measured) ∙ sym (c .before .before .is-measured .ensures) ∙ not-true _ (c .before .if2 .taken)))
+returns-2 c = found-none (c .wrong2 .ensures) (λ p. true≢false (sym (p .measured) ∙ sym (c .before .before .is-measured .ensures) ∙ not-true _ (c .before .if2 .taken)))
 
 none-past-requires : tie.Need-none-past-requires
 none-past-requires c κs = search needs
 
-untaken-requires-3 : tie.Need-untaken-requires-3
-untaken-requires-3 c κs = search needs
+wrong-requires-3 : tie.Need-wrong-requires-3
+wrong-requires-3 c κs = search needs
 
 returns-3 : tie.Need-returns-3
-returns-3 c = found-none (c .untaken3 .ensures) (λ p. c .before .before .none-past .ensures .no (not-true _ (c .before .if3 .taken)) (p .past))
+returns-3 c = found-none (c .wrong3 .ensures) (λ p. c .before .before .none-past .ensures .no (not-true _ (c .before .if3 .taken)) (p .past))
 
 offtakes-test-requires : tie.Need-offtakes-test-requires
 offtakes-test-requires c κs =
     let p = c .before .before .before .before .before .before .pre in
     (p .0, p .1 .consumption, p .1 .losses, p .2)
 
-untaken-requires-4 : tie.Need-untaken-requires-4
-untaken-requires-4 c κs = search needs
+wrong-requires-4 : tie.Need-wrong-requires-4
+wrong-requires-4 c κs = search needs
 
 same-length : tie.Need-same-length
 same-length c = search needs
 
 returns-4 : tie.Need-returns-4
-returns-4 c = found-none (c .untaken4 .ensures) (λ p. c .before .before .before .before .offtakes-test .ensures .decides .no (not-true _ (c .before .if4 .taken)) (p .offtakes))
+returns-4 c = found-none (c .wrong4 .ensures) (λ p. c .before .before .before .before .offtakes-test .ensures .decides .no (not-true _ (c .before .if4 .taken)) (p .offtakes))
 
 balances-test-requires : tie.Need-balances-test-requires
 balances-test-requires c κs =
@@ -86,16 +86,16 @@ pub allotted-test-spec : {M : Type 1} → statement M
 allotted-test-spec =
     tie.close
     (tie.spec
-    untaken-requires
+    wrong-requires
     returns
     is-measured-requires
-    untaken-requires-2
+    wrong-requires-2
     returns-2
     none-past-requires
-    untaken-requires-3
+    wrong-requires-3
     returns-3
     offtakes-test-requires
-    untaken-requires-4
+    wrong-requires-4
     same-length
     returns-4
     balances-test-requires

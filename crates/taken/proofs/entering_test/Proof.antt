@@ -8,20 +8,20 @@ use Rattle.taken.proofs.entering_test.Tie as tie
 all-zero-requires : tie.Need-all-zero-requires
 all-zero-requires c κs = search needs
 
-untaken-requires : tie.Need-untaken-requires
-untaken-requires c κs = search needs
+wrong-requires : tie.Need-wrong-requires
+wrong-requires c κs = search needs
 
 returns : tie.Need-returns
-returns c = found-none (c .untaken .ensures) (λ p. c .before .before .all-zero .ensures .no (not-true _ (c .before .if1 .taken)) (p .balance))
+returns c = found-none (c .wrong .ensures) (λ p. c .before .before .all-zero .ensures .no (not-true _ (c .before .if1 .taken)) (p .balance))
 
 all-zero-requires-2 : tie.Need-all-zero-requires-2
 all-zero-requires-2 c κs = search needs
 
-untaken-requires-2 : tie.Need-untaken-requires-2
-untaken-requires-2 c κs = search needs
+wrong-requires-2 : tie.Need-wrong-requires-2
+wrong-requires-2 c κs = search needs
 
 returns-2 : tie.Need-returns-2
-returns-2 c = found-none (c .untaken2 .ensures) (λ p. c .before .before .all-zero2 .ensures .no (not-true _ (c .before .if2 .taken)) (p .revision))
+returns-2 c = found-none (c .wrong2 .ensures) (λ p. c .before .before .all-zero2 .ensures .no (not-true _ (c .before .if2 .taken)) (p .revision))
 
 mul-all-zero : tie.Need-mul-all-zero
 mul-all-zero c = search needs
@@ -29,11 +29,11 @@ mul-all-zero c = search needs
 all-zero-requires-3 : tie.Need-all-zero-requires-3
 all-zero-requires-3 c κs = search needs
 
-untaken-requires-3 : tie.Need-untaken-requires-3
-untaken-requires-3 c κs = search needs
+wrong-requires-3 : tie.Need-wrong-requires-3
+wrong-requires-3 c κs = search needs
 
 returns-3 : tie.Need-returns-3
-returns-3 c = found-none (c .untaken3 .ensures) (λ p. c .before .before .all-zero3 .ensures .no (not-true _ (c .before .if3 .taken)) (p .consumption))
+returns-3 c = found-none (c .wrong3 .ensures) (λ p. c .before .before .all-zero3 .ensures .no (not-true _ (c .before .if3 .taken)) (p .consumption))
 
 mul-all-zero-2 : tie.Need-mul-all-zero-2
 mul-all-zero-2 c = search needs
@@ -41,11 +41,11 @@ mul-all-zero-2 c = search needs
 all-zero-requires-4 : tie.Need-all-zero-requires-4
 all-zero-requires-4 c κs = search needs
 
-untaken-requires-4 : tie.Need-untaken-requires-4
-untaken-requires-4 c κs = search needs
+wrong-requires-4 : tie.Need-wrong-requires-4
+wrong-requires-4 c κs = search needs
 
 returns-4 : tie.Need-returns-4
-returns-4 c = found-none (c .untaken4 .ensures) (λ p. c .before .before .all-zero4 .ensures .no (not-true _ (c .before .if4 .taken)) (p .losses))
+returns-4 c = found-none (c .wrong4 .ensures) (λ p. c .before .before .all-zero4 .ensures .no (not-true _ (c .before .if4 .taken)) (p .losses))
 
 offtakes-test-requires : tie.Need-offtakes-test-requires
 offtakes-test-requires c κs =
@@ -73,18 +73,18 @@ entering-test-spec =
     tie.close
     (tie.spec
     all-zero-requires
-    untaken-requires
+    wrong-requires
     returns
     all-zero-requires-2
-    untaken-requires-2
+    wrong-requires-2
     returns-2
     mul-all-zero
     all-zero-requires-3
-    untaken-requires-3
+    wrong-requires-3
     returns-3
     mul-all-zero-2
     all-zero-requires-4
-    untaken-requires-4
+    wrong-requires-4
     returns-4
     offtakes-test-requires
     same-length

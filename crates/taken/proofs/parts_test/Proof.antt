@@ -4,15 +4,15 @@ use borrow.Author.Needs.{needs}
 use borrow.Author.Tests.{not-true, not-false}
 use Rattle.point_day.specs.Fields.{point-day}
 use Rattle.taken.proofs.Facts.{parts-sized}
-use Rattle.taken.proofs.Parts.{head-of, taken-allotted, allotted-of, bare-whole-at, taken-entering, entering-of, state-none, state-found}
+use Rattle.taken.proofs.Parts.{head-of, taken-allotted, allotted-of, bare-whole-at, taken-entering, entering-of, parts-none, parts-found}
 use Rattle.taken.proofs.parts_test.Statement.{statement}
 use Rattle.taken.proofs.parts_test.Tie as tie
 
 head-right-requires : tie.Need-head-right-requires
 head-right-requires c κs = search needs
 
-untaken-requires : tie.Need-untaken-requires
-untaken-requires c κs = search needs
+wrong-requires : tie.Need-wrong-requires
+wrong-requires c κs = search needs
 
 returns : tie.Need-returns
 returns c stage =
@@ -20,7 +20,7 @@ returns c stage =
     let a = s .args in
     let d = point-day stage (a .allotted) (a .measurement) (a .n) (a .users .now) (a .consumption .now) (a .losses .now) (a .balance .now) (a .revision .now) in
     let z = parts-sized stage (s .pre .0) (s .pre .1) in
-    state-none d z (c .untaken .ensures) (λ F. c .before .before .head-right .ensures .no (not-true _ (c .before .if1 .taken)) (head-of d z F))
+    parts-none d z (c .wrong .ensures) (λ F. c .before .before .head-right .ensures .no (not-true _ (c .before .if1 .taken)) (head-of d z F))
 
 allotted-test-requires : tie.Need-allotted-test-requires
 allotted-test-requires c κs =
@@ -38,7 +38,7 @@ returns-2 c stage =
     let z = parts-sized stage (s .pre .0) (s .pre .1) in
     let h = c .before .before .before .before .before .head-right .ensures .yes (not-false _ (c .before .before .before .before .if1 .left)) in
     let e = c .before .before .before .if2 .taken in
-    state-found d z (c .before .allotted-test .ensures) (taken-allotted d z e h) (allotted-of d z e) (λ p s l. refl)
+    parts-found d z (c .before .allotted-test .ensures) (taken-allotted d z e h) (allotted-of d z e) (λ p s l. refl)
 
 entering-test-requires : tie.Need-entering-test-requires
 entering-test-requires c κs =
@@ -56,14 +56,14 @@ returns-3 c stage =
     let z = parts-sized stage (s .pre .0) (s .pre .1) in
     let h = c .before .before .before .before .before .head-right .ensures .yes (not-false _ (c .before .before .before .before .if1 .left)) in
     let e = c .before .before .before .if2 .left in
-    state-found d z (c .before .entering-test .ensures) (taken-entering d z e h) (entering-of d z e) (λ p s l. bare-whole-at d z (h .few) (p .balance) (p .revision) s l)
+    parts-found d z (c .before .entering-test .ensures) (taken-entering d z e h) (entering-of d z e) (λ p s l. bare-whole-at d z (h .few) (p .balance) (p .revision) s l)
 
 pub parts-test-spec : {M : Type 1} → statement M
 parts-test-spec =
     tie.close
     (tie.spec
     head-right-requires
-    untaken-requires
+    wrong-requires
     returns
     allotted-test-requires
     same-length

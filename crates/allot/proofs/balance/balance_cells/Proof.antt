@@ -3,6 +3,7 @@ use mathlib.Core.Path.{_≡_, sym, ap, _∙_}
 use mathlib.Core.List.{_++_}
 use lib.ListN.{length, take, drop}
 use lib.Seq.{length-take-le}
+use Rattle.point_day.specs.Limits.{USERS}
 use Rattle.numbers.proofs.Amounts.{back}
 use Rattle.numbers.specs.Lists.{distinct}
 use Rattle.proration.proofs.Prorated.{take-long}
@@ -21,13 +22,13 @@ array-borrow-prefix-keys : tie.Need-array-borrow-prefix-keys
 array-borrow-prefix-keys c = search needs
 
 slice-aggregate-spread-balance : tie.Need-slice-aggregate-spread-balance
-slice-aggregate-spread-balance c = take-long 64 _ 0 (c .before .before .column .ensures) (c .before .before .before .before .pre .1 .1)
+slice-aggregate-spread-balance c = take-long USERS _ 0 (c .before .before .column .ensures) (c .before .before .before .before .pre .1 .1)
 
 array-borrow-prefix-ws : tie.Need-array-borrow-prefix-ws
 array-borrow-prefix-ws c = search needs
 
 slice-aggregate-spread-balance-2 : tie.Need-slice-aggregate-spread-balance-2
-slice-aggregate-spread-balance-2 c = take-long 64 _ 0 (c .before .before .column2 .ensures) (c .before .before .before .before .before .pre .1 .1)
+slice-aggregate-spread-balance-2 c = take-long USERS _ 0 (c .before .before .column2 .ensures) (c .before .before .before .before .before .pre .1 .1)
 
 slice-relend-prefix-spread-balance : tie.Need-slice-relend-prefix-spread-balance
 slice-relend-prefix-spread-balance c = search needs
@@ -42,8 +43,8 @@ spread-balance-requires c κs =
     let p = s .pre .0 in
     let q = s .pre .1 in
     let long : length (take (a .n) (a .shares .now)) ≡ a .n = length-take-le (a .n) (a .shares .now) (q .3) in
-    let keys = take-long 64 (a .n) 0 (c .before .before .before .before .before .column .ensures) (q .1) in
-    let ws = take-long 64 (a .n) 0 (c .before .before .before .before .column2 .ensures) (q .1) in (
+    let keys = take-long USERS (a .n) 0 (c .before .before .before .before .before .column .ensures) (q .1) in
+    let ws = take-long USERS (a .n) 0 (c .before .before .before .before .column2 .ensures) (q .1) in (
       (rw (back (p .0) (omega arith)) (p .0), p .1, p .2, p .3),
       (
         omega (arith, q .0),
