@@ -1,4 +1,6 @@
 // Allot: the balance over users and their kinds.
+#![tactic(auto)]
+
 pub mod balance;
 pub mod shares;
 pub mod weights;

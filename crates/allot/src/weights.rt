@@ -72,7 +72,7 @@ fn weights_by<'a>(all: bool, consumption: &'a [i64], losses: &'a [i64], ws: &mut
 }
 
 // Which kinds the weights are of, all or 2 to 5, and the sum of the weights, W.
-#[derive(Drop)]
+#[derive(Clone, Copy)]
 pub struct Basis {
     pub all: bool,
     pub total: u64,

@@ -1,4 +1,6 @@
 // The arguments of the calls from bytes, little-endian.
+#![tactic(auto)]
+
 ghost use Rattle.std.specs.Prelude.{◌<◌};
 ghost use Rattle.point_day.specs.Limits.{ROWS};
 ghost use Rattle.console.specs.Input.{Onward};
@@ -11,7 +13,7 @@ use point_day::{CELLS, Measurement, PAIRS, ROWS, Stage, StandInRows, USERS};
 // ---- line
 
 // The arguments of a line, and the place after them.
-#[derive(Drop)]
+#[derive(Clone, Copy)]
 pub struct LineArguments {
     pub user: u16,
     pub kind: u8,
@@ -40,7 +42,7 @@ pub fn read_line(s: &[u8], from: Cursor) -> LineArguments
 // ---- stand-in
 
 // The rows of a stand-in, and the place after them.
-#[derive(Drop)]
+#[derive(Clone, Copy)]
 pub struct RowsRead {
     pub rows: StandInRows,
     pub next: Cursor,
@@ -106,7 +108,7 @@ pub fn read_rows(s: &[u8], from: Cursor) -> RowsRead
 // ---- load
 
 // The measurement of a point-day that is loaded, and the place after it.
-#[derive(Drop)]
+#[derive(Clone, Copy)]
 struct MeasurementRead {
     measurement: Measurement,
     next: Cursor,
@@ -128,7 +130,7 @@ fn read_measurement(s: &[u8], from: Cursor) -> MeasurementRead
 }
 
 // What a point-day that is loaded has before its arrays, and the place after it.
-#[derive(Drop)]
+#[derive(Clone, Copy)]
 pub struct Head {
     pub stage: Stage,
     pub allotted: bool,

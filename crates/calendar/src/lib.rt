@@ -1,4 +1,6 @@
 // Gas days, holidays, and the types of days.
+#![tactic(auto)]
+
 ghost use Rattle.std.specs.Prelude.{◌≡◌, true};
 ghost use Rattle.numbers.specs.Lists.{has, rising};
 ghost use Rattle.calendar.specs.Days.{is_gas_day, holidays_right, calendar_right};
@@ -18,7 +20,7 @@ const SATURDAY: u32 = 1;
 
 const SUNDAY: u32 = 2;
 
-#[derive(Drop)]
+#[derive(Clone, Copy)]
 pub enum DayType {
     Working,
     Saturday,
@@ -26,13 +28,13 @@ pub enum DayType {
 }
 
 // What a call answers that gives one number.
-#[derive(Drop)]
+#[derive(Clone, Copy)]
 pub enum NumberAnswer {
     Refused(u8),
     Given(u64),
 }
 
-#[derive(Drop)]
+#[derive(Clone, Copy)]
 pub enum DayTypeAnswer {
     Refused(u8),
     Is(DayType),

@@ -1,4 +1,6 @@
 // Calls on one point-day from bytes: an operation is a byte and its arguments, little-endian; what each call answers is printed.
+#![tactic(auto)]
+
 ghost use Rattle.std.specs.Prelude.{◌≡◌, true, ◌<◌, ◌≤◌, length};
 ghost use Rattle.point_day.specs.Limits.{USERS, CELLS};
 ghost use Rattle.point_day.specs.Day.{measurement_right};
@@ -13,7 +15,7 @@ use numbers::OUT_OF_RANGE;
 use point_day::{Answer, CELLS, KINDS, Measurement, Outcome, PointDay, Stage};
 
 // The place after an operation, and the point-day after it.
-#[derive(Drop)]
+#[derive(Clone, Copy)]
 struct After {
     next: Cursor,
     day: PointDay,

@@ -1,4 +1,6 @@
 // Columns of a point-day's users: one number or amount for each user.
+#![tactic(auto)]
+
 pub mod shares;
 
 ghost use Rattle.std.specs.Prelude.{◌≡◌, map, ◌++◌, ℕ, ◌≤◌, ◌<◌, nat_abs, length, take, drop, replicate};

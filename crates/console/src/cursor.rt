@@ -6,14 +6,14 @@ ghost use Rattle.console.specs.Input.{good, failed, left, passed, read, limited,
 pub const MOST_LENT: usize = 2000;
 
 // A place in the input, and whether all that was asked for so far was there and had a meaning.
-#[derive(Drop)]
+#[derive(Clone, Copy)]
 pub struct Cursor {
     pub at: usize,
     pub ok: bool,
 }
 
 // A number, and the place after it.
-#[derive(Drop)]
+#[derive(Clone, Copy)]
 pub struct Number {
     pub value: u64,
     pub next: Cursor,

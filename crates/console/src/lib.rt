@@ -1,4 +1,6 @@
 // What the programs share: standard input, numbers read from it one after the other, and what is printed.
+#![tactic(auto)]
+
 ghost use Rattle.io.specs.Counts.{IsPrefixLen};
 
 pub mod cursor;

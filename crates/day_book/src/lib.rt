@@ -1,1 +1,2 @@
 // The day book, lists of calls, and the theorem about every list: definitions and proofs, no code.
+#![tactic(auto)]

@@ -1,4 +1,6 @@
 // The form of a day file, and what its header and pairs say.
+#![tactic(auto)]
+
 ghost use Rattle.std.specs.Prelude.{◌≡◌, ◌+◌, ◌-◌, ◌*◌, ◌%◌, ◌≤◌, ◌<◌, leb, eqb, length};
 ghost use Rattle.numbers.specs.Lists.{both};
 ghost use Rattle.day_file.specs.Form.{HEADER, PAIR, USER, LINE, has_mark, header_of, pair_count, pairs_start, pairs_end, section_from, sections, sections_right, decoded};
@@ -38,7 +40,7 @@ pub const CONSUMPTION: usize = 1;
 pub const COEFFICIENT: usize = 5;
 
 // What the header says: gas day, emission, downstream emission, how many sections there are; and where their pairs begin.
-#[derive(Drop)]
+#[derive(Clone, Copy)]
 pub struct Header {
     pub day: u64,
     pub emission: u64,
@@ -48,14 +50,14 @@ pub struct Header {
 }
 
 // A pair: where a section begins, and its length.
-#[derive(Drop)]
+#[derive(Clone, Copy)]
 pub struct Section {
     pub offset: usize,
     pub size: usize,
 }
 
 // What bytes are: a day file with its header, or none.
-#[derive(Drop)]
+#[derive(Clone, Copy)]
 pub enum Decoded {
     DayFile(Header),
     Malformed,

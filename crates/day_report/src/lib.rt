@@ -1,4 +1,6 @@
 // The report on a day file, from its bytes to the bytes of the text.
+#![tactic(auto)]
+
 pub mod allotment;
 
 ghost use Rattle.std.specs.Prelude.{◌≡◌, leb, length};
@@ -19,7 +21,7 @@ use report::refusal;
 pub const REPORT_ROOM: usize = 8192;
 
 // The number of a refusal, or how many bytes the report's text has.
-#[derive(Drop)]
+#[derive(Clone, Copy)]
 pub enum ReportAnswer {
     Refused(u8),
     Written(usize),

@@ -1,4 +1,6 @@
 // Reads a day file from standard input and prints its report.
+#![tactic(auto)]
+
 use day_file::ENOUGH_BYTES;
 use day_report::REPORT_ROOM;
 use libc::{STDIN_FILENO, STDOUT_FILENO};

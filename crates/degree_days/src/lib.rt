@@ -1,4 +1,6 @@
 // The degree days of a day.
+#![tactic(auto)]
+
 ghost use Rattle.std.specs.Prelude.{◌≡◌, true, false, pos, ◌-ℤ◌};
 ghost use Rattle.std.specs.Int.Signed.{lt_z, le_z};
 ghost use Rattle.degree_days.specs.Degrees.{LOWEST, HIGHEST, BASE, temperatures_right, degree_days, degree_days_call, answer_of};
@@ -13,7 +15,7 @@ const HIGHEST: i32 = 600;
 // 15 degrees.
 const BASE: i32 = 150;
 
-#[derive(Drop)]
+#[derive(Clone, Copy)]
 pub enum DegreeDaysAnswer {
     Refused(u8),
     Fortieths(u64),

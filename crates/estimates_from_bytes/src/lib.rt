@@ -1,5 +1,7 @@
 // Calls on supply points, readings and the calendar from bytes: an operation is a byte and its arguments, little-endian; what each call
 // answers is printed.
+#![tactic(auto)]
+
 ghost use Rattle.console.specs.Input.{Onward, Moved};
 
 use calendar::{DayType, DayTypeAnswer, NumberAnswer};
@@ -50,7 +52,7 @@ fn print_telemetered(answer: TelemeteredAnswer) {
 }
 
 // Contracted flows, and the place after them.
-#[derive(Drop)]
+#[derive(Clone, Copy)]
 struct FlowsRead {
     flows: Flows,
     next: Cursor,

@@ -1,4 +1,6 @@
 // The sections of a day file entered into lent arrays.
+#![tactic(auto)]
+
 pub mod lines;
 
 ghost use Rattle.std.specs.Prelude.{◌≡◌, true, map, ◌+◌, ◌<◌};

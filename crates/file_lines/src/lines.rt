@@ -13,7 +13,7 @@ use line::cells::CellLine;
 use point_day::{CELLS, USERS};
 
 // What entering a line, a section or all sections comes to: the number of a refusal, or all consumption and losses so far.
-#[derive(Drop)]
+#[derive(Clone, Copy)]
 pub enum SoFar {
     Refused(u8),
     Offtake(u64),

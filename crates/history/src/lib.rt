@@ -1,4 +1,6 @@
 // The history of a telemetered point: its entries, and the search for the last three real readings on days of the gas day's type.
+#![tactic(auto)]
+
 ghost use Rattle.std.specs.Prelude.{◌≡◌, true, ◌≤◌, take};
 ghost use Rattle.numbers.specs.Lists.{every, rising};
 ghost use Rattle.history.specs.History.{ENTRIES, reading_right, value_of, entry_right, history_right, real_value, dated};
@@ -14,7 +16,7 @@ pub const ENTRIES: usize = 400;
 const MATCHES: u64 = 3;
 
 // What stands in the history for a day.
-#[derive(Drop)]
+#[derive(Clone, Copy)]
 pub enum Reading {
     Nothing,
     Real(u64),
@@ -23,13 +25,13 @@ pub enum Reading {
 }
 
 // A day of the history.
-#[derive(Drop)]
+#[derive(Clone, Copy)]
 pub struct Entry {
     pub reading: Reading,
 }
 
 // What one entry adds to a search: its value and 1 if it matches, and whether it is real.
-#[derive(Drop)]
+#[derive(Clone, Copy)]
 pub struct Hit {
     pub value: u64,
     pub matches: u64,
@@ -37,7 +39,7 @@ pub struct Hit {
 }
 
 // What a search finds: the sum and the number of the matches, the entries looked at, and whether any entry is real.
-#[derive(Drop)]
+#[derive(Clone, Copy)]
 pub struct Found {
     pub sum: u64,
     pub matches: u64,

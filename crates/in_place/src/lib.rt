@@ -1,5 +1,7 @@
 // The calls on a point-day in plain numbers that the caller lends, in place: the tests read the numbers, and what an accepted call changes
 // is written where it stands.
+#![tactic(auto)]
+
 ghost use Rattle.std.specs.Prelude.{◌≡◌, [], ◌∷◌, pos, length};
 ghost use Rattle.numbers.specs.Refusals.{OUT_OF_RANGE};
 ghost use Rattle.point_day.specs.Limits.{USERS, CELLS, TOLERANCE};

@@ -1,4 +1,6 @@
 // The inventory of an allotted point-day.
+#![tactic(auto)]
+
 pub mod cells;
 pub mod row;
 
@@ -15,7 +17,7 @@ use row::ROW;
 use taken::StateTest;
 
 // The number of a refusal, or the count of rows.
-#[derive(Drop)]
+#[derive(Clone, Copy)]
 pub enum InventoryAnswer {
     Refused(u8),
     Rows(usize),

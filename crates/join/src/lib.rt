@@ -1,4 +1,6 @@
 // Join: a user enters the point-day.
+#![tactic(auto)]
+
 ghost use Rattle.std.specs.Prelude.{◌≡◌, true, ◌≤◌, ◌<◌};
 ghost use Rattle.numbers.specs.Refusals.{OUT_OF_RANGE};
 ghost use Rattle.point_day.specs.Limits.{USERS};

@@ -9,7 +9,7 @@ ghost use Rattle.state.specs.Places.{more};
 use point_day::{CELLS, COEFFICIENT, KINDS, LIMIT, PARTS, USERS};
 
 // What a line at its cell comes to: the number of a refusal, or the losses that it added.
-#[derive(Drop)]
+#[derive(Clone, Copy)]
 pub enum CellLine {
     Refused(u8),
     Added(u64),

@@ -1,4 +1,6 @@
 // Line: consumption and losses of a user and kind, on a point-day by value or lent.
+#![tactic(auto)]
+
 pub mod cells;
 
 ghost use Rattle.std.specs.Prelude.{◌≡◌, true, List, ℕ, ◌≤◌, ◌<◌};
@@ -18,7 +20,7 @@ use point_day::{Answer, KINDS, LIMIT, Outcome, PointDay};
 use taken::StateTest;
 
 // What the tests of a line find: a refusal, or the place of its cell and the losses that it adds.
-#[derive(Drop)]
+#[derive(Clone, Copy)]
 pub enum LineTest {
     Refused(u8),
     Passed(usize, u64),

@@ -1,5 +1,7 @@
 // Many lines on a point-day in plain numbers, in place: the point-day is tested once, and the sum of its consumption and losses is kept
 // from line to line.
+#![tactic(auto)]
+
 ghost use Rattle.std.specs.Prelude.{◌≡◌, true, [], ◌∷◌, ◌≤◌, eqb, pos, length};
 ghost use Rattle.numbers.specs.Sums.{pick};
 ghost use Rattle.point_day.specs.Limits.{USERS};
@@ -57,7 +59,7 @@ fn slot_near<'a>(hints: &'a [u8], slots: &'a [u16], count: usize, user: u16) -> 
 // ---- Line after line
 
 // The refusal that ended the lines, or 0; how many were accepted, and the losses that they added.
-#[derive(Drop)]
+#[derive(Clone, Copy)]
 struct LinesEntered {
     status: u8,
     accepted: u64,

@@ -1,4 +1,6 @@
 // Measure: the emission and the downstream emission of the day.
+#![tactic(auto)]
+
 ghost use Rattle.std.specs.Prelude.{◌≡◌, not};
 ghost use Rattle.numbers.specs.Lists.{both};
 ghost use Rattle.numbers.specs.Refusals.{OUT_OF_RANGE};

@@ -1,4 +1,6 @@
 // Months, the month of a gas day, and the working days of a month.
+#![tactic(auto)]
+
 ghost use Rattle.std.specs.Prelude.{◌≡◌, true, ◌≤◌, ◌<◌};
 ghost use Rattle.numbers.specs.Sums.{bit};
 ghost use Rattle.numbers.specs.Lists.{rising};
@@ -19,7 +21,7 @@ const CYCLE_DAYS: u32 = 1461;
 
 const CYCLE_MONTHS: u32 = 48;
 
-#[derive(Drop)]
+#[derive(Clone, Copy)]
 pub struct Month {
     pub year: u32,
     pub number: u32,
@@ -27,7 +29,7 @@ pub struct Month {
     pub days: u32,
 }
 
-#[derive(Drop)]
+#[derive(Clone, Copy)]
 pub enum MonthAnswer {
     Refused(u8),
     Figures {

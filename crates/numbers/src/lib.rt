@@ -1,4 +1,6 @@
 // The nearest of a fraction, signed amounts and their sums, buckets of numbers, and the numbers of refusals.
+#![tactic(auto)]
+
 ghost use Rattle.std.specs.Prelude.{◌≡◌, false, ℕ, ◌≤◌, ◌<◌, leb, eqb, pos, nat_abs, ◌+ℤ◌, ◌-ℤ◌, length, replicate};
 ghost use Rattle.numbers.specs.Sums.{atZ, totalZ};
 ghost use Rattle.numbers.specs.Amounts.{SAFE, Within, Between, Decides, is_negative, signed};

@@ -1,4 +1,6 @@
 // A point-day in plain numbers: where they stand, whether a point-day can be read from them and is taken, and what is written into them.
+#![tactic(auto)]
+
 pub mod from_numbers;
 pub mod writes;
 

@@ -1,4 +1,6 @@
 // Values that stand in lists of numbers: an optional amount, contracted flows, a history. What has no meaning becomes a value out of its range.
+#![tactic(auto)]
+
 ghost use Rattle.std.specs.Prelude.{◌≡◌, ◌≤◌, length, take};
 ghost use Rattle.history.specs.History.{ENTRIES};
 ghost use Rattle.plain_values.specs.Lists.{amount_in, own_of, toll_in, factor_in, flows_in, reading_in, entries_in};

@@ -1,4 +1,6 @@
 // The point-day: its limits, its state, what a call on it answers; the fresh point-day.
+#![tactic(auto)]
+
 ghost use Rattle.std.specs.Prelude.{◌≡◌, pos, replicate};
 ghost use Rattle.point_day.specs.Limits.{USERS, CELLS};
 ghost use Rattle.point_day.specs.Day.{fresh};
@@ -27,7 +29,7 @@ pub const ROWS: usize = 15;
 
 pub const PAIRS: usize = ROWS * USERS;
 
-#[derive(Drop)]
+#[derive(Clone, Copy)]
 pub enum Stage {
     Provisional,
     FinalProvisional,
@@ -35,14 +37,14 @@ pub enum Stage {
 }
 
 // Emission and downstream emission.
-#[derive(Drop)]
+#[derive(Clone, Copy)]
 pub enum Measurement {
     Unmeasured,
     Measured(u64, u64),
 }
 
 // One point on one gas day. The users stand in the order in which they joined; kind k of slot s is cell KINDS s + k - 1.
-#[derive(Drop)]
+#[derive(Clone, Copy)]
 pub struct PointDay {
     pub stage: Stage,
     pub allotted: bool,
@@ -56,7 +58,7 @@ pub struct PointDay {
 }
 
 // The rows of a stand-in: how many pairs each has; user and amount of pair j of row i stand at USERS i + j.
-#[derive(Drop)]
+#[derive(Clone, Copy)]
 pub struct StandInRows {
     pub counts: [usize; ROWS],
     pub users: [u16; PAIRS],
@@ -64,7 +66,7 @@ pub struct StandInRows {
 }
 
 // What a call answers: refused with document 01's number, or the values that it names.
-#[derive(Drop)]
+#[derive(Clone, Copy)]
 pub enum Answer {
     Refused(u8),
     Done,
@@ -75,7 +77,7 @@ pub enum Answer {
 }
 
 // A call's answer, and the point-day afterwards.
-#[derive(Drop)]
+#[derive(Clone, Copy)]
 pub struct Outcome {
     pub answer: Answer,
     pub day: PointDay,

@@ -1,4 +1,6 @@
 // Proration: the sum of the weights, the whole units and remainders, and which remainder is served before which.
+#![tactic(auto)]
+
 ghost use Rattle.std.specs.Prelude.{◌≡◌, ◌++◌, ◌≤◌, ◌<◌, ltb, leb, length, drop};
 ghost use Rattle.numbers.specs.Sums.{bit, sum, table, at, total, Bounded};
 ghost use Rattle.proration.specs.Proration.{PARTIES, LARGEST_AMOUNT, LARGEST_WEIGHT, ahead, floor, rem, before};

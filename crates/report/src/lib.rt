@@ -1,4 +1,6 @@
 // The text of a report in a lent buffer.
+#![tactic(auto)]
+
 pub mod lines;
 pub mod refusal;
 

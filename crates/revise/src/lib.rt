@@ -1,4 +1,6 @@
 // Revise: what net has over everything allotted, assigned to the users if it lies outside the tolerance.
+#![tactic(auto)]
+
 pub mod assignment;
 pub mod outstanding;
 
@@ -19,7 +21,7 @@ use point_day::{Answer, Outcome, PointDay, Stage, TOLERANCE, USERS};
 use taken::StateTest;
 
 // What the tests of a revise find: a refusal, or R, within the tolerance or assigned.
-#[derive(Drop)]
+#[derive(Clone, Copy)]
 pub enum ReviseTest {
     Refused(u8),
     Within(i64),

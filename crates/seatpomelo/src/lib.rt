@@ -1,4 +1,5 @@
 // The calls for programs in other languages, on numbers and lists that the caller lends.
+#![tactic(auto)]
 
 ghost use Rattle.std.specs.Prelude.{◌≡◌, [], ◌∷◌, length, pos};
 ghost use Rattle.point_day.specs.Limits.{TOLERANCE};

@@ -1,5 +1,7 @@
 // How a split is found: the units left over, a split by largest remainder, and the calls, for an amount of either sign and for programs in
 // other languages.
+#![tactic(auto)]
+
 mod keys;
 pub mod largest_remainder;
 mod leftover;

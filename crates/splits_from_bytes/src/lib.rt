@@ -1,5 +1,7 @@
 // Prorations from bytes. A case is an i64 amount, a u16 count of parties, a u32 weight for each and a u32 key for each, little-endian;
 // its shares are printed on a line. The first case that is cut short or out of range ends the run.
+#![tactic(auto)]
+
 ghost use Rattle.std.specs.Prelude.{◌≡◌, length};
 ghost use Rattle.io.specs.Counts.{IsPrefixLen};
 ghost use Rattle.console.specs.Input.{Onward, Moved};

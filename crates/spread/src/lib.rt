@@ -1,4 +1,6 @@
 // Spreading a reading over the days of its period.
+#![tactic(auto)]
+
 ghost use Rattle.std.specs.Prelude.{◌≡◌, true, ◌++◌, ◌≤◌, length, drop, replicate};
 ghost use Rattle.proration.specs.Proration.{PARTIES};
 ghost use Rattle.spread.specs.Period.{in_range, days, parts};
@@ -8,7 +10,7 @@ use numbers::{NEGATIVE_WEIGHT, OUT_OF_RANGE, SHORT_BUFFER};
 use point_day::LIMIT;
 use proration::PARTIES;
 
-#[derive(Drop)]
+#[derive(Clone, Copy)]
 pub enum SpreadAnswer {
     Refused(u8),
     Done,

@@ -1,4 +1,6 @@
 // Stand-in: net of a point-day without lines, over the users of the nearest earlier day with any pair.
+#![tactic(auto)]
+
 pub mod opening;
 pub mod rows;
 
@@ -17,7 +19,7 @@ use point_day::{Answer, Outcome, PointDay, ROWS, StandInRows, TOLERANCE};
 use taken::StateTest;
 
 // What the tests of a stand-in find: a refusal, or the place of the row that is used, from 0.
-#[derive(Drop)]
+#[derive(Clone, Copy)]
 pub enum StandInTest {
     Refused(u8),
     Passed(usize),

@@ -1,4 +1,6 @@
 // Start-final: the next stage, entering.
+#![tactic(auto)]
+
 ghost use Rattle.std.specs.Prelude.{◌≡◌, not};
 ghost use Rattle.numbers.specs.Lists.{either};
 ghost use Rattle.numbers.specs.Refusals.{OUT_OF_RANGE};

@@ -1,4 +1,6 @@
 // What all calls ask of a point-day: a user's slot, its sums and whole amounts, its stage and measurement.
+#![tactic(auto)]
+
 ghost use Rattle.std.specs.Prelude.{◌≡◌, true, ◌++◌, ◌≤◌, ◌<◌, pos, ◌+ℤ◌, length, drop};
 ghost use Rattle.numbers.specs.Sums.{table, atZ};
 ghost use Rattle.numbers.specs.Amounts.{Within, Decides};

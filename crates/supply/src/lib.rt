@@ -1,4 +1,6 @@
 // Consumption of a supply point: its amounts and contracted flows, and a new consumer's consumption.
+#![tactic(auto)]
+
 ghost use Rattle.std.specs.Prelude.{◌≡◌, true, ◌≤◌};
 ghost use Rattle.calendar.specs.Answers.{answer_of};
 ghost use Rattle.supply.specs.Amounts.{THOUSAND, amount_right, flows_right, limited};
@@ -17,20 +19,20 @@ pub const THOUSAND: u64 = 1000;
 const NEW_DAYS: u64 = 210;
 
 // An amount that may be missing.
-#[derive(Drop)]
+#[derive(Clone, Copy)]
 pub enum Amount {
     Missing,
     Known(u64),
 }
 
-#[derive(Drop)]
+#[derive(Clone, Copy)]
 pub enum Toll {
     Toll34,
     OtherToll,
 }
 
 // The contracted flows of a point: its toll, Q_a (a year), Q_d (a day) and f_c.
-#[derive(Drop)]
+#[derive(Clone, Copy)]
 pub struct Flows {
     pub toll: Toll,
     pub yearly: Amount,

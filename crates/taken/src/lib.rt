@@ -1,4 +1,6 @@
 // Whether a point-day is taken, and whether a whole amount of it is too large.
+#![tactic(auto)]
+
 pub mod user_numbers;
 
 ghost use Rattle.std.specs.Prelude.{◌≡◌, false, ℕ, ◌*◌, ◌≤◌, ◌<◌, length};
@@ -31,7 +33,7 @@ fn measurement_right(measurement: Measurement) -> bool
 }
 
 // What a test of amounts finds: whether they are right, and if so the sum of the whole amounts.
-#[derive(Drop)]
+#[derive(Clone, Copy)]
 struct Tally {
     right: bool,
     sum: i64,
@@ -284,7 +286,7 @@ fn parts_test<'a>(
 
 // What the test of a point-day finds: whether it is taken; if so, all that it holds but its amounts, and its users' whole amounts with their
 // sum.
-#[derive(Drop)]
+#[derive(Clone, Copy)]
 pub struct StateTest {
     pub taken: bool,
     pub stage: Stage,

@@ -1,4 +1,6 @@
 // Telemetered points: the reading, the user's own value, the mean of the last three readings, or a new consumer's flow.
+#![tactic(auto)]
+
 ghost use Rattle.std.specs.Prelude.{◌≡◌, true};
 ghost use Rattle.supply.specs.Amounts.{flows_right};
 ghost use Rattle.telemetered.specs.Telemetered.{value_to_use, own_right, first_of, from_found, values_right, telemetered, answer_of};
@@ -8,13 +10,13 @@ use numbers::{NO_BASIS, OUT_OF_RANGE};
 use supply::{Amount, Flows, LIMIT};
 
 // The user's own value.
-#[derive(Drop)]
+#[derive(Clone, Copy)]
 pub enum OwnValue {
     NotSent,
     Sent(u64),
 }
 
-#[derive(Drop)]
+#[derive(Clone, Copy)]
 pub enum TelemeteredAnswer {
     Refused(u8),
     Consumption { kwh: u64, looked: usize },

@@ -1,4 +1,6 @@
 // Temperature coefficients as exact fractions, and the means of months and winters that they are made of.
+#![tactic(auto)]
+
 ghost use Rattle.std.specs.Prelude.{◌≡◌, true, ◌≤◌, length};
 ghost use Rattle.numbers.specs.Sums.{total};
 ghost use Rattle.numbers.specs.Lists.{every};
@@ -16,7 +18,7 @@ pub const MOST_DAYS: u32 = 31;
 const MOST_DEGREES: u32 = 2600;
 
 // An exact number.
-#[derive(Drop)]
+#[derive(Clone, Copy)]
 pub struct Fraction {
     pub top: u64,
     pub bottom: u64,

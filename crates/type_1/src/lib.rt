@@ -1,4 +1,6 @@
 // Type 1 points: a month's consumption, shared out over its days.
+#![tactic(auto)]
+
 mod day_share;
 mod month_consumption;
 

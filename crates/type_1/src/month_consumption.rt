@@ -8,7 +8,7 @@ use supply::{Amount, THOUSAND};
 use temperature::Fraction;
 
 // A month's consumption as an exact fraction, if there is a basis for it.
-#[derive(Drop)]
+#[derive(Clone, Copy)]
 pub enum Basis {
     NoBasis,
     OfMonth(Fraction),

@@ -1,4 +1,6 @@
 // Type 2 consumers: their consumption by a profile, and profiles.
+#![tactic(auto)]
+
 ghost use Rattle.std.specs.Prelude.{◌≡◌};
 ghost use Rattle.calendar.specs.Answers.{answer_of};
 ghost use Rattle.type_2.specs.Type2.{type_2_right, type_2, year_right, profile};

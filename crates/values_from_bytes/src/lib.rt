@@ -1,4 +1,6 @@
 // What the calls on supply points, readings and the calendar take, from bytes: numbers, lists and histories, little-endian.
+#![tactic(auto)]
+
 ghost use Rattle.std.specs.Prelude.{◌≡◌, ◌≤◌, length, take};
 ghost use Rattle.std.specs.Int.{w32};
 ghost use Rattle.std.proofs.Common.{to_z};
@@ -19,25 +21,25 @@ const MOST_HOLIDAYS: usize = 4000;
 
 const MOST_DEGREE_DAYS: usize = 255;
 
-#[derive(Drop)]
+#[derive(Clone, Copy)]
 pub struct Word {
     pub value: u32,
     pub next: Cursor,
 }
 
-#[derive(Drop)]
+#[derive(Clone, Copy)]
 pub struct Optional {
     pub amount: Amount,
     pub next: Cursor,
 }
 
-#[derive(Drop)]
+#[derive(Clone, Copy)]
 pub struct List {
     pub count: usize,
     pub next: Cursor,
 }
 
-#[derive(Drop)]
+#[derive(Clone, Copy)]
 pub struct History {
     pub entries: [Entry; ENTRIES],
     pub next: Cursor,
@@ -114,7 +116,7 @@ pub fn read_list(s: &[u8], count: Number, into: &mut [u32]) -> List
 }
 
 // A day, how many holidays follow it, and the place after them.
-#[derive(Drop)]
+#[derive(Clone, Copy)]
 pub struct Day {
     pub value: u32,
     pub holidays: usize,

@@ -1,4 +1,6 @@
 // Little-endian numbers, and decimal text in a lent buffer.
+#![tactic(auto)]
+
 ghost use Rattle.std.specs.Prelude.{◌≡◌, ◌+◌, ◌≤◌, ◌<◌, nat_abs, length};
 ghost use Rattle.wire.specs.Bytes.{little_endian, signed_64};
 ghost use Rattle.wire.specs.Text.{natural, decimal, written};

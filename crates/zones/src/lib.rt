@@ -1,4 +1,6 @@
 // Climate zones, and the provinces with their degree-day values.
+#![tactic(auto)]
+
 ghost use Rattle.std.specs.Prelude.{◌≡◌};
 ghost use Rattle.calendar.specs.Answers as Answers;
 ghost use Rattle.zones.specs.Zones.{zone_call, province_call, answer_of};
@@ -12,13 +14,13 @@ const MOST_HUNDREDTHS: u32 = 1000;
 const LAST_PROVINCE: u32 = 48;
 
 // A province's degree-day value, the mean of section 1.6 of PD-02 in hundredths, and its zone.
-#[derive(Drop)]
+#[derive(Clone, Copy)]
 pub struct Province {
     pub mean: u32,
     pub zone: u32,
 }
 
-#[derive(Drop)]
+#[derive(Clone, Copy)]
 pub enum ProvinceAnswer {
     Refused(u8),
     ValueAndZone { value: u32, zone: u32 },

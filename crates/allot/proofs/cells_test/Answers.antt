@@ -1,0 +1,91 @@
+-- `allot::cells_test` meets its contract on any entering point-day that has these parts. Assumes nothing.
+use mathlib.Core.Path.{◌≡◌, sym, ap, ◌∙◌, subst⁻¹}
+use native.Mathlib.Omega.{arith}
+use lib.ListN.{length}
+use borrow.Author.Rules.{rules}
+use Rattle.numbers.specs.Sums.{table}
+use Rattle.numbers.proofs.Amounts.{back, within_pos}
+use Rattle.numbers.proofs.Sums.{length_table}
+use Rattle.point_day.specs.Limits.{USERS}
+use Rattle.point_day.proofs.Taken.{taken_facts}
+use Rattle.state.specs.Places.{whole_at}
+use Rattle.taken.proofs.Facts.{facts, taken_summable, first_wholes}
+use Rattle.allot.specs.Allotted.{Balanced}
+use Rattle.allot.specs.Shared.{shares_of}
+use Rattle.allot.proofs.shares.Sharing.{shares_long}
+use Rattle.allot.proofs.balance.Cells.{none_long}
+use Rattle.allot.proofs.OfParts.{is_of_parts, allottable_parts}
+use Rattle.allot.proofs.Outcomes.{filled_long, cells_in_range, balances_small, large_after, users_are, sum_small, difference_is, balance_small, cells_left}
+use Rattle.allot.proofs.cells_test.Goals as goal
+
+pub net-requires : goal.net-requires
+net-requires c =
+    let x = c.requires.0 in
+    (taken_facts _ (allottable_parts x.holds).has.known.is_taken).measurement
+
+pub minus-day_balance-requires : goal.minus-day_balance-requires
+minus-day_balance-requires c =
+    let a = allottable_parts c.requires.0.holds in
+    let k = a.has.known in
+    let net = c.net in
+    let w = sum_small _ k.sized k.is_taken a.entering k.sum in
+    (rw (back (within_pos net.result) (omega (arith, net.ensures.1))) record { size = omega (arith, net.ensures.1) }, rw (back w (omega arith)) record { size = omega (arith, w.size) })
+
+pub balance_cells-requires : goal.balance_cells-requires
+balance_cells-requires c =
+    let a = allottable_parts c.requires.0.holds in
+    let k = a.has.known in
+    let z = k.sized in
+    let t = k.is_taken in
+    let net = c.net.ensures in
+    let b = c.minus-day_balance.ensures ∙ difference_is _ z t a.entering net.0 net.1 k.sum in
+    let small = balance_small _ z t a.entering a.decreases a.users in
+    let f = facts _ z t in
+    let room : length c.args.state.wholes ≡ USERS = search rules in record { within = (rw (b, back small (omega arith)) small, cells_in_range _ z t, z.users, none_long c.requires.1); n_nonzero = (omega (arith, a.users), f.few, f.apart, omega (arith, f.few, room)) }
+
+pub whole_amounts-requires : goal.whole_amounts-requires
+whole_amounts-requires c =
+    let a = allottable_parts c.requires.0.holds in
+    let k = a.has.known in
+    let z = k.sized in
+    let t = k.is_taken in
+    let net = c.net.ensures in
+    let bs = c.balance_cells.new.1.1.1.1.1.1.0 in
+    let long : length c.balance_cells.new.1.1.1.1.1.1.0 ≡ length c.args.cells.now = search rules in
+    let w = cells_left _ z t a.entering a.decreases a.users net.0 net.1 k.sum c.minus-day_balance.ensures c.requires.1 c.balance_cells.ensures.cells_after in
+    let l = taken_summable _ z t in
+    let enough = filled_long (shares_of _ c.args.consumption.now c.args.losses.now c.args.state.users c.args.state.count) _ (shares_long _ c.args.consumption.now c.args.losses.now c.args.state.users c.args.state.count) c.balance_cells.ensures.shares_after in (
+      l.few,
+      enough,
+      l.consumption,
+      l.losses,
+      balances_small _ z t a.entering (users_are _ z t a.users) bs w,
+      l.revision,
+      record { consumption = z.consumption; losses = z.losses; balance = long ∙ none_long c.requires.1; revision = z.revision },
+    )
+
+pub slice_bounds-shares-end : goal.slice_bounds-shares-end
+slice_bounds-shares-end c =
+    let a = c.args in
+    let f = whole_at a.consumption.now a.losses.now c.balance_cells.new.1.1.1.1.1.1.0 a.revision.now in
+    filled_long (table f a.state.count) _ (length_table f a.state.count) c.whole_amounts.ensures
+
+pub slice_bounds-wholes_too_large-end : goal.slice_bounds-wholes_too_large-end
+slice_bounds-wholes_too_large-end c =
+    let a = c.args in
+    let f = whole_at a.consumption.now a.losses.now c.balance_cells.new.1.1.1.1.1.1.0 a.revision.now in
+    sym (ap length (first_wholes f a.state.count _ c.whole_amounts.ensures) ∙ length_table f a.state.count)
+
+pub returns : goal.returns
+returns c d h =
+    let a = allottable_parts h in
+    let k = a.has.known in
+    let z = k.sized in
+    let t = k.is_taken in
+    let net = c.net.ensures in
+    let bs = c.balance_cells.new.1.1.1.1.1.1.0 in
+    let long : length c.balance_cells.new.1.1.1.1.1.1.0 ≡ length c.args.cells.now = search rules in
+    let w = cells_left _ z t a.entering a.decreases a.users net.0 net.1 k.sum c.minus-day_balance.ensures c.requires.1 c.balance_cells.ensures.cells_after in
+    let f = whole_at c.args.consumption.now c.args.losses.now c.balance_cells.new.1.1.1.1.1.1.0 c.args.revision.now in
+    let large = large_after _ z t a.entering (users_are _ z t a.users) bs w (long ∙ none_long c.requires.1) _ (first_wholes f c.args.state.count _ c.whole_amounts.ensures) in
+    subst⁻¹ (λ x. Balanced bs x c.wholes_too_large.result) (is_of_parts h.has) (record { cells = w; large = c.wholes_too_large.ensures ∙ large })

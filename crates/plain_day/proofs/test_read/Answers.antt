@@ -1,0 +1,7 @@
+-- `plain_day::test_read` meets its contract: its parts are those of the point-day. Assumes nothing.
+use Rattle.plain_day.specs.Layout.{day_in}
+use Rattle.plain_day.proofs.test_read.Goals as goal
+
+pub returns : goal.returns
+unfolding day_in
+returns c = rw (c.stage_in.ensures, c.allotted_in.ensures, c.measurement_in.ensures, c.count_in.ensures, c.requires.1) at c.test_state.ensures

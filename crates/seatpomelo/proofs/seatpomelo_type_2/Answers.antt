@@ -1,0 +1,10 @@
+-- `seatpomelo::seatpomelo_type_2` meets its contract. Assumes nothing.
+use mathlib.Core.Path.{ap, ◌∙◌}
+use mathlib.Core.List.{[], ◌∷◌}
+use Rattle.seatpomelo.specs.Settled.{settles, number}
+use Rattle.seatpomelo.proofs.seatpomelo_type_2.Goals as goal
+
+pub returns : goal.returns
+returns c =
+    c.settle.ensures
+    ∙ ap (λ a. settles number a (c.args.consumption.now ∷ [])) c.type_2-answer.ensures

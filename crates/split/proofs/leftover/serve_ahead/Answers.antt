@@ -1,0 +1,28 @@
+-- `split::leftover::serve_ahead` meets its contract. Assumes nothing.
+use Rattle.std.proofs.Common.{◌+◌, ◌-◌, ap₂, arith}
+use Rattle.numbers.specs.Sums.{at}
+use Rattle.proration.specs.Proration.{ahead}
+use Rattle.numbers.proofs.Sums.{bit_small}
+use Rattle.numbers.proofs.Filled.{fill_none, fill_step, fill_next, fill_end}
+use Rattle.split.proofs.leftover.serve_ahead.Goals as goal
+
+pub loop-i-init : goal.loop-i-init
+loop-i-init c = (omega arith, fill_none _ _)
+
+pub overflow_add-shares : goal.overflow_add-shares
+overflow_add-shares c =
+    let i = c.loop-i.i in
+    omega (
+      arith,
+      fill_next c.loop-i.invariant.1 0 (omega arith),
+      c.requires.by_index i (omega arith),
+      bit_small (ahead (at c.args.rems.now i) (at c.args.keys.now i) c.args.x c.args.y) c.goes_before.ensures,
+    )
+
+pub loop-i-preserved : goal.loop-i-preserved
+loop-i-preserved c =
+    let inv = c.loop-i.invariant.1 in
+    (omega arith, fill_step inv (omega arith) (ap₂ ◌+◌ (fill_next inv 0 (omega arith)) c.goes_before.ensures))
+
+pub returns : goal.returns
+returns c = fill_end c.loop-i.invariant.1 (omega arith)

@@ -1,0 +1,30 @@
+-- `split::leftover::serve_ranked` meets its contract. Assumes nothing.
+use Rattle.std.proofs.Common.{◌+◌, ◌-◌, ltb, ap, ◌∙◌, ap₂, arith}
+use Rattle.numbers.specs.Sums.{bit}
+use Rattle.numbers.proofs.Sums.{bit_small}
+use Rattle.numbers.proofs.Filled.{fill_none, fill_step, fill_next, fill_end}
+use Rattle.split.proofs.leftover.serve_ranked.Goals as goal
+
+pub loop-i-init : goal.loop-i-init
+loop-i-init c = (omega arith, fill_none _ _)
+
+pub overflow_add-shares : goal.overflow_add-shares
+overflow_add-shares c =
+    omega (
+      arith,
+      fill_next c.loop-i.invariant.1 0 (omega arith),
+      c.requires.by_index c.loop-i.i (omega arith),
+      bit_small (ltb c.count_ahead.result c.args.left) c.one_if_less.ensures,
+    )
+
+pub loop-i-preserved : goal.loop-i-preserved
+loop-i-preserved c =
+    let left = c.args.left in
+    let inv = c.loop-i.invariant.1 in (
+      omega arith,
+      fill_step inv (omega arith)
+          (ap₂ ◌+◌ (fill_next inv 0 (omega arith)) (c.one_if_less.ensures ∙ ap (λ r. bit (ltb r left)) c.count_ahead.ensures)),
+    )
+
+pub returns : goal.returns
+returns c = fill_end c.loop-i.invariant.1 (omega arith)

@@ -1,0 +1,31 @@
+-- `state::user_low` meets its contract: the bits of the kinds passed so far are gathered. Assumes nothing.
+use mathlib.Core.Path.{◌≡◌}
+use Prim.Native.Nat.{◌+◌, ◌-◌, ◌*◌}
+use native.Mathlib.Omega.{arith}
+use borrow.Author.Rules.{rules}
+use mir.Syntax.{w64}
+use mir.Val.{SFits}
+use Rattle.numbers.specs.Sums.{atZ}
+use Rattle.state.proofs.Lows.{gather_kind, not_low, low_if}
+use Rattle.state.proofs.user_low.Goals as goal
+
+pub loop-k-init : goal.loop-k-init
+loop-k-init c = (omega arith, record { each = λ l k m n. absurd (omega arith); back = λ p. omega arith })
+
+pub loop-k-preserved : goal.loop-k-preserved
+loop-k-preserved c =
+    let a = c.args in
+    let k = c.loop-k.k in
+    let f : SFits w64 (atZ a.consumption.now (5 * a.slot + k)) = search rules in
+    let g : SFits w64 (atZ a.losses.now (5 * a.slot + k)) = search rules in
+    (omega arith, gather_kind a.consumption.now a.losses.now a.slot k c.loop-k.bits-bits f g c.loop-k.invariant.1)
+
+pub returns-then-bits-lt0 : goal.returns-then-bits-lt0
+returns-then-bits-lt0 c =
+    let e : c.loop-k.k ≡ 5 = omega arith in
+    not_low c.loop-k.bits-bits (rw e at c.loop-k.invariant.1) c.if-bits-lt0.true
+
+pub returns : goal.returns
+returns c =
+    let e : c.loop-k.k ≡ 5 = omega arith in
+    low_if c.loop-k.bits-bits (rw e at c.loop-k.invariant.1) c.if-bits-lt0.false

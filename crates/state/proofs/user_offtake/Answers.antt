@@ -1,0 +1,46 @@
+-- `state::user_offtake` meets its contract: the sum of the kinds passed so far. Assumes nothing.
+use mathlib.Core.Path.{◌≡◌, refl, ap}
+use Prim.Native.Nat.{ℕ, ◌+◌, ◌-◌, ◌*◌, ◌<◌}
+use native.Mathlib.Omega.{arith}
+use lib.IntN.{ℤ, ◌+ℤ◌}
+use mir.Syntax.{w64}
+use mir.Val.{of_z}
+use Rattle.numbers.specs.Sums.{sumZ, atZ}
+use Rattle.numbers.proofs.Amounts.{back, next_turn, next_turn_fits}
+use Rattle.state.specs.Places.{ROOM}
+use Rattle.state.proofs.Lows.{low_consumption, low_losses, kind_within, offtake_within}
+use Rattle.state.proofs.user_offtake.Goals as goal
+
+pub loop-k-init : goal.loop-k-init
+loop-k-init c = (omega arith, unfold sumZ in refl)
+
+pub cell_offtake-sum-requires : goal.cell_offtake-sum-requires
+cell_offtake-sum-requires c =
+    let a = c.args in
+    let k = c.loop-k.k in
+    let l : k < 5 = omega arith in
+    (omega arith, low_consumption a.consumption.now a.losses.now a.slot c.requires.1 k l, low_losses a.consumption.now a.losses.now a.slot c.requires.1 k l, c.requires.2, c.requires.3)
+
+pub overflow_add-sum : goal.overflow_add-sum
+overflow_add-sum c =
+    let a = c.args in
+    let k = c.loop-k.k in
+    let f : ℕ → ℤ = λ j. atZ a.consumption.now (5 * a.slot + j) +ℤ atZ a.losses.now (5 * a.slot + j) in
+    rw c.cell_offtake-sum.ensures
+    (next_turn_fits (2 * ROOM) f k (λ j l. kind_within a.consumption.now a.losses.now a.slot c.requires.1 j (omega arith)) c.loop-k.invariant.1 (omega arith))
+
+pub loop-k-preserved : goal.loop-k-preserved
+loop-k-preserved c =
+    let a = c.args in
+    let k = c.loop-k.k in
+    let f : ℕ → ℤ = λ j. atZ a.consumption.now (5 * a.slot + j) +ℤ atZ a.losses.now (5 * a.slot + j) in (
+      omega arith,
+      rw c.cell_offtake-sum.ensures
+          (ap (of_z w64) (next_turn (2 * ROOM) f k (λ j l. kind_within a.consumption.now a.losses.now a.slot c.requires.1 j (omega arith)) c.loop-k.invariant.1 (omega arith))),
+    )
+
+pub returns : goal.returns
+returns c =
+    let a = c.args in
+    let e : c.loop-k.k ≡ 5 = omega arith in
+    rw (c.loop-k.invariant.1, e) (back (offtake_within a.consumption.now a.losses.now a.slot c.requires.1) (omega arith))

@@ -1,0 +1,64 @@
+-- `taken::test_state` meets its contract: the first elements are all. Assumes nothing.
+use mathlib.Core.Path.{◌≡◌, refl, sym, ◌∙◌}
+use native.Mathlib.Omega.{arith}
+use borrow.Author.Rules.{rules}
+use lib.ListN.{length}
+use lib.Seq.{take_all, length-take-le}
+use Rattle.point_day.specs.Limits.{USERS, CELLS}
+use Rattle.taken.proofs.Facts.{parts_sized, sum_kept, first_wholes}
+use Rattle.taken.proofs.test_state.Goals as goal
+
+pub slice_bounds-parts_test-end-2 : goal.slice_bounds-parts_test-end-2
+slice_bounds-parts_test-end-2 c =
+    sym (length-take-le CELLS c.args.consumption.now (omega (arith, c.requires.consumption)))
+
+pub slice_bounds-parts_test-end-3 : goal.slice_bounds-parts_test-end-3
+slice_bounds-parts_test-end-3 c =
+    sym (length-take-le CELLS c.args.losses.now (omega (arith, c.requires.losses)))
+
+pub slice_bounds-parts_test-end-4 : goal.slice_bounds-parts_test-end-4
+slice_bounds-parts_test-end-4 c =
+    sym (length-take-le CELLS c.args.balance.now (omega (arith, c.requires.balance)))
+
+pub slice_bounds-parts_test-end-5 : goal.slice_bounds-parts_test-end-5
+slice_bounds-parts_test-end-5 c =
+    sym (length-take-le USERS c.args.revision.now (omega (arith, c.requires.revision)))
+
+pub parts_test-tally-requires : goal.parts_test-tally-requires
+parts_test-tally-requires c =
+    let a = c.args in (
+      search rules,
+      record {
+        consumption = length-take-le CELLS a.consumption.now (omega (arith, c.requires.consumption));
+        losses = length-take-le CELLS a.losses.now (omega (arith, c.requires.losses));
+        balance = length-take-le CELLS a.balance.now (omega (arith, c.requires.balance));
+        revision = length-take-le USERS a.revision.now (omega (arith, c.requires.revision));
+      },
+      search rules,
+    )
+
+pub returns : goal.returns
+returns c =
+    let a = c.args in
+    let cs = take_all CELLS a.consumption.now (omega (arith, c.requires.consumption)) in
+    let ls = take_all CELLS a.losses.now (omega (arith, c.requires.losses)) in
+    let bs = take_all CELLS a.balance.now (omega (arith, c.requires.balance)) in
+    let rs = take_all USERS a.revision.now (omega (arith, c.requires.revision)) in
+    let T = rw (cs, ls, bs, rs) at (c.parts_test-tally.ensures a.stage) in
+    record {
+      is = T.is;
+      known = λ y.
+          let u : length a.t5 ≡ USERS = search rules in
+          let t = sym T.is ∙ y in
+          record {
+            sized = parts_sized a.stage u c.requires;
+            is_taken = t;
+            stage = refl;
+            allotted = refl;
+            measurement = refl;
+            count = refl;
+            users = refl;
+            wholes = first_wholes _ a.count _ (T.wholes y);
+            sum = sum_kept _ (parts_sized a.stage u c.requires) t (T.sum y);
+          };
+    }

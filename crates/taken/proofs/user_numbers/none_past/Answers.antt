@@ -1,0 +1,28 @@
+-- `taken::user_numbers::none_past` meets its contract: the bits of every number passed so far are gathered. Assumes nothing.
+use mathlib.Core.Path.{◌≡◌}
+use Prim.Native.Nat.{◌-◌, ◌<◌}
+use native.Mathlib.Omega.{arith}
+use lib.ListN.{length, get_or}
+use Rattle.numbers.proofs.Lists.{passed}
+use Rattle.numbers.proofs.Bits.{gather, none_gathered}
+use Rattle.taken.proofs.user_numbers.none_past.Goals as goal
+
+pub loop-i-init : goal.loop-i-init
+loop-i-init c = (omega arith, λ k m n. absurd (omega arith), record { each = λ l k m n. absurd (omega arith); back = λ p. omega arith })
+
+pub loop-i-preserved : goal.loop-i-preserved
+loop-i-preserved c =
+    let a = c.args in
+    let i = c.loop-i.i in
+    let b = c.loop-i.invariant in (
+      omega arith,
+      passed (λ k. k < length a.users.now) a.count i b.1 (omega arith),
+      gather (get_or a.users.now i 0) b.2 (record { each = λ l. omega arith; back = λ e. omega arith })
+          (passed (λ k. get_or a.users.now k 0 ≡ 0) a.count i)
+          (λ r. (λ k l m. r k l (omega arith), r i b.0 (omega arith))),
+    )
+
+pub returns : goal.returns
+returns c =
+    let h = c.loop-i.invariant.2 in
+    none_gathered c.loop-i.bits record { each = λ l k m n. h.each l k m (omega arith); back = λ p. h.back (λ k m n. p k m (c.loop-i.invariant.1 k m n)) }

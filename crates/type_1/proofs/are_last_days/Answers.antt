@@ -1,0 +1,21 @@
+-- `type_1::are_last_days` meets its contract. The days are counted against those of the same month a year earlier. Assumes nothing.
+use mathlib.Core.Path.{◌≡◌, sym, ap, ◌∙◌}
+use borrow.Author.Tests.{eq-eqb, ne_eqb}
+use Rattle.months.specs.Months.{month_of, last_year_days}
+use Rattle.months.proofs.Months.{month_holds}
+use Rattle.type_1.specs.Type1.{last_days_right}
+use Rattle.type_1.proofs.are_last_days.Goals as goal
+
+days-is : (c : tie.After-days-last-year) → c.days-last-year.result ≡ last_year_days (month_of c.before.before.before.args.day)
+days-is c = c.days-last-year.ensures ∙ ap last_year_days c.before.month-of-day.ensures
+
+pub days_last_year-requires : goal.days_last_year-requires
+days_last_year-requires c = rw c.month_of_day-month.ensures (month_holds _ c.requires).year
+
+pub returns-then-last_days-days_last_year : goal.returns-then-last_days-days_last_year
+unfolding last_days_right
+returns-then-last_days-days_last_year c = rw (ne_eqb _ _ (λ e. c.if-last_days-days_last_year.true (e ∙ sym (days-is c.before))))
+
+pub returns : goal.returns
+unfolding last_days_right
+returns c = rw (eq-eqb _ _ (c.if-last_days-days_last_year.false ∙ days-is c.before.before)) c.are_all_degrees.ensures
