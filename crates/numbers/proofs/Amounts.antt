@@ -114,15 +114,15 @@ within_pos m = record { size = omega arith }
 
 -- ---- one turn of a sum: s holds the bits of the sum so far
 
-module _ (m : ℕ) (f : ℕ → ℤ) (h : (i : ℕ) → Within m (f i)) (i : ℕ) {s : ℕ} (e : s ≡ of_z w64 (sumZ f i)) (l : (i + 1) * m < 2 ^ 63) where
+module _ (m : ℕ) (f : ℕ → ℤ) (h : (i : ℕ) → Within m (f i)) (i s : ℕ) (e : to_z w64 s ≡ sumZ f i) (l : (i + 1) * m < 2 ^ 63) where
   pub turn : to_z w64 s +ℤ to_z w64 (of_z w64 (f i)) ≡ sumZ f (i + 1)
-  turn =
-      ap₂ ◌+ℤ◌ (ap (to_z w64) e ∙ back (within_sum m f h i) (omega (arith, add-mul i 1 m, one-mul m)))
-      (back (h i) (omega (arith, add-mul i 1 m, one-mul m)))
-      ∙ sym (sumZ_more f i)
+  turn = ap₂ ◌+ℤ◌ e (back (h i) (omega (arith, add-mul i 1 m, one-mul m))) ∙ sym (sumZ_more f i)
 
   pub turn_fits : SFits w64 (to_z w64 s +ℤ to_z w64 (of_z w64 (f i)))
   turn_fits = rw turn (sfits (within_sum m f h (i + 1)) l)
+
+  pub turn_kept : to_z w64 (of_z w64 (to_z w64 s +ℤ to_z w64 (of_z w64 (f i)))) ≡ sumZ f (i + 1)
+  turn_kept = to_z-of_z turn_fits ∙ turn
 
 -- the same where only the first n are known to be small
 pub within_first : (m : ℕ) (f : ℕ → ℤ) (n : ℕ) → ((i : ℕ) → i < n → Within m (f i)) → Within (n * m) (sumZ f n)
@@ -130,15 +130,15 @@ unfolding sumZ
 within_first m f zero h = record { size = omega arith }
 within_first m f (suc n) h = widen (within_add (within_first m f n (λ i l. h i (omega arith))) (h n (omega arith))) (omega (arith, suc-mul n m))
 
-module _ (m : ℕ) (f : ℕ → ℤ) (i : ℕ) (h : (j : ℕ) → j < i + 1 → Within m (f j)) {s : ℕ} (e : s ≡ of_z w64 (sumZ f i)) (l : (i + 1) * m < 2 ^ 63) where
+module _ (m : ℕ) (f : ℕ → ℤ) (i : ℕ) (h : (j : ℕ) → j < i + 1 → Within m (f j)) (s : ℕ) (e : to_z w64 s ≡ sumZ f i) (l : (i + 1) * m < 2 ^ 63) where
   pub next_turn : to_z w64 s +ℤ to_z w64 (of_z w64 (f i)) ≡ sumZ f (i + 1)
-  next_turn =
-      ap₂ ◌+ℤ◌ (ap (to_z w64) e ∙ back (within_first m f i (λ j q. h j (omega arith))) (omega (arith, add-mul i 1 m, one-mul m)))
-      (back (h i (omega arith)) (omega (arith, add-mul i 1 m, one-mul m)))
-      ∙ sym (sumZ_more f i)
+  next_turn = ap₂ ◌+ℤ◌ e (back (h i (omega arith)) (omega (arith, add-mul i 1 m, one-mul m))) ∙ sym (sumZ_more f i)
 
   pub next_turn_fits : SFits w64 (to_z w64 s +ℤ to_z w64 (of_z w64 (f i)))
   next_turn_fits = rw next_turn (sfits (within_first m f (i + 1) h) l)
+
+  pub next_turn_kept : to_z w64 (of_z w64 (to_z w64 s +ℤ to_z w64 (of_z w64 (f i)))) ≡ sumZ f (i + 1)
+  next_turn_kept = to_z-of_z next_turn_fits ∙ next_turn
 
 -- ---- equal bits
 
