@@ -32,10 +32,10 @@ module _ (c : tie.After-below-base) where
   tmin_low : le_z BASE s.args.tmin ≡ false
   tmin_low = rw (to_z-of_z s.fits.tmin) at c.before.if1.false
 
-  cold_is : pos c.below-base.result ≡ BASE -ℤ s.args.tmin
-  cold_is = rw (to_z-of_z s.fits.tmin) at c.below-base.ensures
+  cold_is : pos c.below_base.result ≡ BASE -ℤ s.args.tmin
+  cold_is = rw (to_z-of_z s.fits.tmin) at c.below_base.ensures
 
-  cold_most : c.below-base.result ≤ 650
+  cold_most : c.below_base.result ≤ 650
   cold_most = below_most s.args.tmin (low s tmin_low) (under s tmin_low) cold_is
 
 -- both temperatures lie below 15 degrees
@@ -62,8 +62,8 @@ module _ (c : tie.After-above-base) where
   tmax_high : lt_z (s a).args.tmax BASE ≡ false
   tmax_high = rw (to_z-of_z (s a).fits.tmax) at c.before.if2.false
 
-  warm_is : pos c.above-base.result ≡ (s a).args.tmax -ℤ BASE
-  warm_is = rw (to_z-of_z (s a).fits.tmax) at c.above-base.ensures
+  warm_is : pos c.above_base.result ≡ (s a).args.tmax -ℤ BASE
+  warm_is = rw (to_z-of_z (s a).fits.tmax) at c.above_base.ensures
 
 pub returns-then-tmin-ge-BASE : goal.returns-then-tmin-ge-BASE
 returns-then-tmin-ge-BASE c =

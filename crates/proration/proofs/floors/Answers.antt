@@ -26,19 +26,19 @@ bounds-rems-i c = omega arith
 
 pub overflow_add-given : goal.overflow_add-given
 overflow_add-given c =
-    let f = floor c.args.amount c.args.weight-sum (at c.args.ws.now) in
+    let f = floor c.args.amount c.args.weight_sum (at c.args.ws.now) in
     let i = c.loop-i.i in
     let n = length c.args.ws.now in
     omega (
       arith,
       sum_more f i,
       sum_mono f (i + 1) n (omega arith),
-      floors_le c.args.amount c.args.weight-sum (at c.args.ws.now) n c.requires.amount_bound.1 (sym (total_sum c.args.ws.now) ∙ sym c.requires.amount_bound.2),
+      floors_le c.args.amount c.args.weight_sum (at c.args.ws.now) n c.requires.amount_bound.1 (sym (total_sum c.args.ws.now) ∙ sym c.requires.amount_bound.2),
     )
 
 pub loop-i-preserved : goal.loop-i-preserved
 loop-i-preserved c =
-    let f = floor c.args.amount c.args.weight-sum (at c.args.ws.now) in
+    let f = floor c.args.amount c.args.weight_sum (at c.args.ws.now) in
     let i = c.loop-i.i in (
       omega arith,
       omega (arith, sum_more f i),

@@ -6,8 +6,8 @@ use Rattle.months.proofs.Months.{month_holds}
 use Rattle.type_1.specs.Type1.{last_days_right}
 use Rattle.type_1.proofs.are_last_days.Goals as goal
 
-days-is : (c : tie.After-days-last-year) → c.days-last-year.result ≡ last_year_days (month_of c.before.before.before.args.day)
-days-is c = c.days-last-year.ensures ∙ ap last_year_days c.before.month-of-day.ensures
+days-is : (c : tie.After-days-last-year) → c.days_last_year.result ≡ last_year_days (month_of c.before.before.before.args.day)
+days-is c = c.days_last_year.ensures ∙ ap last_year_days c.before.month_of_day.ensures
 
 pub days_last_year-requires : goal.days_last_year-requires
 days_last_year-requires c = rw c.month_of_day-month.ensures (month_holds _ c.requires).year

@@ -24,8 +24,8 @@ module _ (c : tie.Else1) where
   abbrev s : tie.Start
   s = c.before.before.before
 
-  passed : RightOther s.args.day s.args.holidays.now s.args.last_year s.args.c-c s.args.last_month s.args.day-flow s.args.f-c s.args.c-f
-  passed = right_other _ _ _ _ _ _ _ _ (sym c.before.is-other-toll.ensures ∙ not-false _ c.if1.false)
+  passed : RightOther s.args.day s.args.holidays.now s.args.last_year s.args.c_c s.args.last_month s.args.day_flow s.args.f_c s.args.c_f
+  passed = right_other _ _ _ _ _ _ _ _ (sym c.before.is_other_toll.ensures ∙ not-false _ c.if1.false)
 
   holds : Holds s.args.day (month_of s.args.day)
   holds = month_holds s.args.day passed.day
@@ -38,18 +38,18 @@ module _ (c : tie.After-working-days) where
 
   working_is : c.before.is_working.result ≡ is_working (s e).args.holidays.now (s e).args.day
   unfolding is_working
-  working_is = c.before.is_working.ensures ∙ ap is_working_type c.before.before.type-of-day.ensures
+  working_is = c.before.is_working.ensures ∙ ap is_working_type c.before.before.type_of_day.ensures
 
-  lab_is : c.working-days.result ≡ N_lab (s e).args.holidays.now (month_of (s e).args.day)
-  lab_is = c.working-days.ensures ∙ ap (N_lab (s e).args.holidays.now) c.before.before.before.before.month-of-day.ensures
+  lab_is : c.working_days.result ≡ N_lab (s e).args.holidays.now (month_of (s e).args.day)
+  lab_is = c.working_days.ensures ∙ ap (N_lab (s e).args.holidays.now) c.before.before.before.before.month_of_day.ensures
 
-  month_days : c.before.before.before.before.month-of-day.result.days ≡ (month_of (s e).args.day).days
-  month_days = ap (λ m. m.days) c.before.before.before.before.month-of-day.ensures
+  month_days : c.before.before.before.before.month_of_day.result.days ≡ (month_of (s e).args.day).days
+  month_days = ap (λ m. m.days) c.before.before.before.before.month_of_day.ensures
 
-  basis_is : c.before.before.before.month-of-other.result ≡ month_other (s e).args.last_year (s e).args.c-c (s e).args.last_month (s e).args.day-flow (s e).args.f-c (month_of (s e).args.day).days
-  basis_is = c.before.before.before.month-of-other.ensures ∙ ap (month_other (s e).args.last_year (s e).args.c-c (s e).args.last_month (s e).args.day-flow (s e).args.f-c) month_days
+  basis_is : c.before.before.before.month_of_other.result ≡ month_other (s e).args.last_year (s e).args.c_c (s e).args.last_month (s e).args.day_flow (s e).args.f_c (month_of (s e).args.day).days
+  basis_is = c.before.before.before.month_of_other.ensures ∙ ap (month_other (s e).args.last_year (s e).args.c_c (s e).args.last_month (s e).args.day_flow (s e).args.f_c) month_days
 
-  basis_small : SmallBasis c.before.before.before.month-of-other.result
+  basis_small : SmallBasis c.before.before.before.month_of_other.result
   basis_small =
       let p = passed e in
       let a = p.amounts in
@@ -61,11 +61,11 @@ share_eq p q r = rw (p, q, r)
 day_eq : {b b' : Basis} {p p' n n' : ℕ} → b ≡ b' → p ≡ p' → n ≡ n' → day_of b p (THOUSAND * n) ≡ day_of b' p' (THOUSAND * n')
 day_eq p q r = rw (p, q, r)
 
-days-is : (c : tie.After-days-for) → c.days-for.result ≡ sharing (is_working (s (e c.before)).args.holidays.now (s (e c.before)).args.day) (s (e c.before)).args.holidays.now (month_of (s (e c.before)).args.day)
+days-is : (c : tie.After-days-for) → c.days_for.result ≡ sharing (is_working (s (e c.before)).args.holidays.now (s (e c.before)).args.day) (s (e c.before)).args.holidays.now (month_of (s (e c.before)).args.day)
 unfolding N_res
-days-is c = let w = c.before in c.days-for.ensures ∙ share_eq (working_is w) (month_days w) (lab_is w)
+days-is c = let w = c.before in c.days_for.ensures ∙ share_eq (working_is w) (month_days w) (lab_is w)
 
-days-share : (c : tie.After-days-for) → Shares c.days-for.result
+days-share : (c : tie.After-days-for) → Shares c.days_for.result
 days-share c = rw (days-is c) (shares _ _ (passed (e c.before)).day)
 
 part_small : (b : Bool) (k : ℕ) → k ≤ THOUSAND → part_of b k ≤ THOUSAND
@@ -104,10 +104,10 @@ overflow_mul-days c = omega (arith, (days-share c.before).most)
 
 pub day_of_month-requires : goal.day_of_month-requires
 day_of_month-requires c =
-    (basis_small d.before, omega (arith, c.part_for.ensures, part_small c.is_working-working.result (s (e d.before)).args.c-f (passed (e d.before)).share), omega (arith, (days-share d).some), omega (arith, (days-share d).most))
+    (basis_small d.before, omega (arith, c.part_for.ensures, part_small c.is_working-working.result (s (e d.before)).args.c_f (passed (e d.before)).share), omega (arith, (days-share d).some), omega (arith, (days-share d).most))
 
 pub returns : goal.returns
 unfolding other_toll tested
 returns c =
     rw (sym c.is_other_toll.ensures ∙ not-false _ c.if-not-is_other_toll.false-raw)
-    (c.day_of_month.ensures ∙ day_eq (basis_is w) (c.part_for.ensures ∙ ap (λ b. part_of b (s (e w)).args.c-f) (working_is w)) (days-is d))
+    (c.day_of_month.ensures ∙ day_eq (basis_is w) (c.part_for.ensures ∙ ap (λ b. part_of b (s (e w)).args.c_f) (working_is w)) (days-is d))

@@ -18,11 +18,11 @@ module _ (c : tie.Else1) where
   abbrev s : tie.Start
   s = c.before.before.before
 
-  passed : Right34 s.args.day s.args.last_year s.args.g s.args.last-days.now s.args.last_month s.args.year-flow
-  passed = right_34 _ _ _ _ _ _ (sym c.before.is-toll-34.ensures ∙ not-false _ c.if1.false)
+  passed : Right34 s.args.day s.args.last_year s.args.g s.args.last_days.now s.args.last_month s.args.year_flow
+  passed = right_34 _ _ _ _ _ _ (sym c.before.is_toll_34.ensures ∙ not-false _ c.if1.false)
 
-correction_is : (c : tie.After-correction-of) → c.correction-of.result ≡ C_temp1 (s c.before.before).args.g (s c.before.before).args.last-days.now
-correction_is c = c.correction-of.ensures ∙ ap (correction (s c.before.before).args.g) c.before.mean-of.ensures
+correction_is : (c : tie.After-correction-of) → c.correction_of.result ≡ C_temp1 (s c.before.before).args.g (s c.before.before).args.last_days.now
+correction_is c = c.correction_of.ensures ∙ ap (correction (s c.before.before).args.g) c.before.mean_of.ensures
 
 -- C_m
 
@@ -30,10 +30,10 @@ module _ (c : tie.After-month-of-34) where
   abbrev e : tie.Else1
   e = c.before.before.before
 
-  basis_is : c.month-of-34.result ≡ month_34 (s e).args.last_year (C_temp1 (s e).args.g (s e).args.last-days.now) (s e).args.last_month (s e).args.year-flow
-  basis_is = c.month-of-34.ensures ∙ ap (λ k. month_34 (s e).args.last_year k (s e).args.last_month (s e).args.year-flow) (correction_is c.before)
+  basis_is : c.month_of_34.result ≡ month_34 (s e).args.last_year (C_temp1 (s e).args.g (s e).args.last_days.now) (s e).args.last_month (s e).args.year_flow
+  basis_is = c.month_of_34.ensures ∙ ap (λ k. month_34 (s e).args.last_year k (s e).args.last_month (s e).args.year_flow) (correction_is c.before)
 
-  basis_small : SmallBasis c.month-of-34.result
+  basis_small : SmallBasis c.month_of_34.result
   basis_small =
       let p = passed e in
       let a = p.amounts in

@@ -15,7 +15,7 @@ module _ (c : tie.Else2) where
   s = c.before.before.before.before
 
   one_right : year_right s.args.f1 s.args.nc1 s.args.n1 ≡ true
-  one_right = sym c.before.before.before.is-year.ensures ∙ not-false _ c.before.before.if1.false
+  one_right = sym c.before.before.before.is_year.ensures ∙ not-false _ c.before.before.if1.false
 
   two_right : year_right s.args.f2 s.args.nc2 s.args.n2 ≡ true
   two_right = sym c.before.is-year2.ensures ∙ not-false _ c.if2.false

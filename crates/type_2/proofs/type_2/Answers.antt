@@ -20,7 +20,7 @@ module _ (c : tie.Else1) where
   s = c.before.before.before.before
 
   is_right : type_2_right s.args.consumers s.args.profile s.args.g s.args.winters s.args.first.now s.args.second.now ≡ true
-  is_right = sym c.before.is-type-2.ensures ∙ not-false _ c.if1.false
+  is_right = sym c.before.is_type_2.ensures ∙ not-false _ c.if1.false
 
   passed : Right2 s.args.consumers s.args.profile s.args.g s.args.winters s.args.first.now s.args.second.now
   passed = right_2 _ _ _ _ _ _ is_right
@@ -31,10 +31,10 @@ module _ (c : tie.After-correction-of) where
   abbrev e : tie.Else1
   e = c.before.before.before
 
-  correction_is : c.correction-of.result ≡ C_temp2 (s e).args.g (s e).args.winters (s e).args.first.now (s e).args.second.now
-  correction_is = c.correction-of.ensures ∙ ap (correction (s e).args.g) c.before.mean-of-winters.ensures
+  correction_is : c.correction_of.result ≡ C_temp2 (s e).args.g (s e).args.winters (s e).args.first.now (s e).args.second.now
+  correction_is = c.correction_of.ensures ∙ ap (correction (s e).args.g) c.before.mean_of_winters.ensures
 
-  correction_small : Corrects c.correction-of.result
+  correction_small : Corrects c.correction_of.result
   correction_small = rw correction_is (corrects _ _ (passed e).degrees (winters_sound _ _ _ (passed e).winters))
 
 pub returns-then-not-is_type_2 : goal.returns-then-not-is_type_2

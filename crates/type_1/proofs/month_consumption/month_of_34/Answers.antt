@@ -15,13 +15,13 @@ pub returns-in-Known : goal.returns-in-Known
 unfolding month_34
 returns-in-Known c =
     let s = c.args in
-    sym (ap (λ a. month_34 a s.correction s.last_month s.year-flow) c.in-Known.is)
+    sym (ap (λ a. month_34 a s.correction s.last_month s.year_flow) c.in-Known.is)
 
 pub returns-in-Known-last_month : goal.returns-in-Known-last_month
 unfolding month_34
 returns-in-Known-last_month c =
     let s = c.args in
-    sym (ap₂ (λ a b. month_34 a s.correction b s.year-flow) c.in_default.is c.in-Known-last_month.is)
+    sym (ap₂ (λ a b. month_34 a s.correction b s.year_flow) c.in_default.is c.in-Known-last_month.is)
 
 pub returns-in-Known-year_flow : goal.returns-in-Known-year_flow
 unfolding month_34
