@@ -17,7 +17,7 @@ pub put_natural-requires : goal.put_natural-requires
 put_natural-requires c = omega (arith, length-set c.args.out.now c.args.i 45)
 
 pub shape_of-out-then-x-lt0 : goal.shape_of-out-then-x-lt0
-shape_of-out-then-x-lt0 c = c.put_natural.auto.0 ∙ length-set c.args.out.now c.args.i 45
+shape_of-out-then-x-lt0 c = c.put_natural.auto.out ∙ length-set c.args.out.now c.args.i 45
 
 pub returns-then-x-lt0 : goal.returns-then-x-lt0
 returns-then-x-lt0 c =
