@@ -12,7 +12,7 @@ use Rattle.day_file.specs.declared.Decoded.TheVariants.{DayFile, Malformed}
 abbrev pub MOST_BYTES : ℕ
 MOST_BYTES = 65536
 
--- ---- "little_endian"
+-- ---- "little-endian"
 
 abbrev pub u8 : List ℕ → ℕ → ℕ
 u8 f i = little_endian 1 f i

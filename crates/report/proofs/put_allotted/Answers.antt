@@ -28,7 +28,7 @@ minus-b-requires c =
     (cast_safe c.args.net (omega (arith, c.requires.in_bounds.2)), cast_safe c.args.offtake (omega (arith, c.requires.in_bounds.3)))
 
 pub put_users-requires : goal.put_users-requires
-put_users-requires c = record { n_bound = (c.requires.in_bounds.4, omega (arith, c.requires.in_bounds.4, c.requires.in_bounds.0, c.put_line-at.ensures.value.1, c.put_line-at.auto.0)); small = c.requires.small }
+put_users-requires c = record { n_bound = (c.requires.in_bounds.4, omega (arith, c.requires.in_bounds.4, c.requires.in_bounds.0, c.put_line-at.ensures.value.1, c.put_line-at.auto.out)); small = c.requires.small }
 
 pub returns : goal.returns
 returns c =

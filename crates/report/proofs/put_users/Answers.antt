@@ -23,11 +23,11 @@ pub loop-slot-preserved : goal.loop-slot-preserved
 loop-slot-preserved c =
     let l = c.loop-slot in
     let a = c.args in
-    let u = (c.put_user-at.ensures.value, c.put_user-at.ensures.out_after) in
+    let u = c.put_user-at.ensures in
     let f = slot_line a.users.now a.consumption.now a.losses.now a.shares.now in (
       omega arith,
-      put_as (one_more f l.slot) (put_more l.invariant.1 (f l.slot) u.1 u.0.0 (omega (arith, u.0.1, l.invariant.2))),
-      omega (arith, u.0.1, l.invariant.2),
+      put_as (one_more f l.slot) (put_more l.invariant.1 (f l.slot) u.out_after u.value.0 (omega (arith, u.value.1, l.invariant.2))),
+      omega (arith, u.value.1, l.invariant.2),
     )
 
 pub shape_of-out : goal.shape_of-out

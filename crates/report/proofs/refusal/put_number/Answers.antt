@@ -13,7 +13,7 @@ pub put_decimal-requires : goal.put_decimal-requires
 put_decimal-requires c = simp length-set (omega arith)
 
 pub shape_of-out : goal.shape_of-out
-shape_of-out c = c.put_decimal.auto.0 ∙ length-set c.args.out.now c.args.i _
+shape_of-out c = c.put_decimal.auto.out ∙ length-set c.args.out.now c.args.i _
 
 pub returns : goal.returns
 returns c =
