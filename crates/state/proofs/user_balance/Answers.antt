@@ -1,11 +1,9 @@
 -- `state::user_balance` meets its contract: the sum of the kinds passed so far. Assumes nothing.
-use mathlib.Core.Path.{◌≡◌, refl, ap}
+use mathlib.Core.Path.{◌≡◌, refl}
 use Prim.Native.Nat.{◌+◌, ◌-◌, ◌*◌}
 use native.Mathlib.Omega.{arith}
-use mir.Syntax.{w64}
-use mir.Val.{of_z}
 use Rattle.numbers.specs.Sums.{sumZ, atZ}
-use Rattle.numbers.proofs.Amounts.{back, sfits, within_add, next_turn, next_turn_fits}
+use Rattle.numbers.proofs.Amounts.{back, sfits, within_add, next_turn_kept, next_turn_fits}
 use Rattle.state.specs.Places.{ROOM}
 use Rattle.state.proofs.Lows.{balance_within, revision_within, balances_within}
 use Rattle.state.proofs.user_balance.Goals as goal
@@ -17,15 +15,14 @@ pub overflow_add-sum-in-loop-k : goal.overflow_add-sum-in-loop-k
 overflow_add-sum-in-loop-k c =
     let a = c.args in
     let l = c.loop-k in
-    next_turn_fits ROOM (λ j. atZ a.balance.now (5 * a.slot + j)) l.k (λ j m. balance_within a.balance.now a.revision.now a.slot c.requires.1 j (omega arith)) l.invariant.1 (omega arith)
+    next_turn_fits ROOM (λ j. atZ a.balance.now (5 * a.slot + j)) l.k (λ j m. balance_within a.balance.now a.revision.now a.slot c.requires.1 j (omega arith)) _ l.invariant.1 (omega arith)
 
 pub loop-k-preserved : goal.loop-k-preserved
 loop-k-preserved c =
     let a = c.args in
     let l = c.loop-k in (
       omega arith,
-      ap (of_z w64)
-          (next_turn ROOM (λ j. atZ a.balance.now (5 * a.slot + j)) l.k (λ j m. balance_within a.balance.now a.revision.now a.slot c.requires.1 j (omega arith)) l.invariant.1 (omega arith)),
+      next_turn_kept ROOM (λ j. atZ a.balance.now (5 * a.slot + j)) l.k (λ j m. balance_within a.balance.now a.revision.now a.slot c.requires.1 j (omega arith)) _ l.invariant.1 (omega arith),
     )
 
 pub overflow_add-result : goal.overflow_add-result
@@ -34,7 +31,7 @@ overflow_add-result c =
     let e : c.loop-k.k ≡ 5 = omega arith in
     let v = balances_within a.balance.now a.revision.now a.slot c.requires.1 in
     let r = revision_within a.balance.now a.revision.now a.slot c.requires.1 in
-    rw (c.loop-k.invariant.1, e, back v (omega arith), back r (omega arith)) (sfits (within_add v r) (omega arith))
+    rw (c.loop-k.invariant.1, e, back r (omega arith)) (sfits (within_add v r) (omega arith))
 
 pub returns : goal.returns
 returns c =
@@ -42,4 +39,4 @@ returns c =
     let e : c.loop-k.k ≡ 5 = omega arith in
     let v = balances_within a.balance.now a.revision.now a.slot c.requires.1 in
     let r = revision_within a.balance.now a.revision.now a.slot c.requires.1 in
-    rw (c.loop-k.invariant.1, e, back v (omega arith), back r (omega arith)) (back (within_add v r) (omega arith))
+    rw (c.loop-k.invariant.1, e, back r (omega arith)) (back (within_add v r) (omega arith))
