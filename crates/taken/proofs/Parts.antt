@@ -56,10 +56,9 @@ found_more g h t = record {
 
 -- ---- consumption and losses
 
--- the sum of n users, as the code holds it
-pub offtakes_back : (cs ls : List ℤ) (n : ℕ) → n ≤ USERS → ((s : ℕ) → s < n → LowSlot cs ls s) → {x : ℕ} → x ≡ of_z w64 (sumZ (offtake_at cs ls) n) → to_z w64 x ≡ sumZ (offtake_at cs ls) n
-offtakes_back cs ls n l h e =
-    ap (to_z w64) e ∙ back (within_first (10 * ROOM) (offtake_at cs ls) n (λ s m. offtake_within cs ls s (h s m))) (omega (arith, mul-le-mul_right (10 * ROOM) l))
+-- the sum of k users is the sum of n users
+pub offtakes_back : (cs ls : List ℤ) (n : ℕ) {k : ℕ} {z : ℤ} → z ≡ sumZ (offtake_at cs ls) k → k ≡ n → z ≡ sumZ (offtake_at cs ls) n
+offtakes_back cs ls n e q = e ∙ ap (sumZ (offtake_at cs ls)) q
 
 pub offtakes_found : (cs ls : List ℤ) (n : ℕ) (before after : List ℤ) → ((s : ℕ) → s < n → LowSlot cs ls s) → (z : ℤ) → z ≡ sumZ (offtake_at cs ls) n → after ≡ table (offtake_at cs ls) n ++ drop n before
     → Found (Offtakes n cs ls) (offtake_at cs ls) n before record { right = le_z z (pos LIMIT); sum = z } after
@@ -99,10 +98,9 @@ module _ (ws bs rs : List ℤ) (s : ℕ) (h : Within (10 * ROOM) (atZ ws s)) (k 
   added_test e q = q ∙ ap (λ z. leb (nat_abs z) AMOUNT) (added_back e)
 
 module _ (ws bs rs : List ℤ) (n : ℕ) where
-  -- the sum of n users, as the code holds it
-  pub balances_back : n ≤ USERS → ((s : ℕ) → s < n → Added ws bs rs s) → {x : ℕ} → x ≡ of_z w64 (sumZ (added_at ws bs rs) n) → to_z w64 x ≡ sumZ (added_at ws bs rs) n
-  balances_back l h e =
-      ap (to_z w64) e ∙ back (within_first AMOUNT (added_at ws bs rs) n (λ s m. (h s m).1)) (omega (arith, mul-le-mul_right AMOUNT l))
+  -- the sum of k users is the sum of n users
+  pub balances_back : {k : ℕ} {z : ℤ} → z ≡ sumZ (added_at ws bs rs) k → k ≡ n → z ≡ sumZ (added_at ws bs rs) n
+  balances_back e q = e ∙ ap (sumZ (added_at ws bs rs)) q
 
   pub balances_below : (z : ℤ) → z ≡ sumZ (added_at ws bs rs) n → lt_z z (pos 0) ≡ true → Balances n ws bs rs → ⊥
   balances_below z e q p = true≢false (sym (ap (λ t. lt_z t (pos 0)) (sym e) ∙ q) ∙ p.wholes.sum.above)

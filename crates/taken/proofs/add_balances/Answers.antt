@@ -9,7 +9,7 @@ use mir.Val.{of_z}
 use Rattle.numbers.specs.Sums.{sumZ}
 use Rattle.numbers.specs.Amounts.{Within}
 use Rattle.numbers.proofs.Lists.{passed}
-use Rattle.numbers.proofs.Amounts.{back, widen, next_turn, next_turn_fits}
+use Rattle.numbers.proofs.Amounts.{back, widen, next_turn_kept, next_turn_fits}
 use Rattle.numbers.proofs.Filled.{fill_none, fill_next, fill_step, fill_end}
 use Rattle.point_day.specs.Limits.{AMOUNT}
 use Rattle.state.proofs.Lows.{user_balance_within}
@@ -58,7 +58,7 @@ overflow_add-sum c =
     let e = added_test a.wholes.now a.balance.now a.revision.now l.s w z is c.size_at_most.ensures in
     let one : Within AMOUNT (added_at a.wholes.now a.balance.now a.revision.now l.s) = record { size = leb-true _ AMOUNT (sym e ∙ not-false _ c.if-not-size_at_most.false-raw) } in
     let h = passed (Added a.wholes.now a.balance.now a.revision.now) 0 l.s l.invariant.1 (z, one) in
-    rw is (next_turn_fits AMOUNT (added_at a.wholes.now a.balance.now a.revision.now) l.s (λ j m. (h j (omega arith) m).1) l.invariant.3 (omega arith))
+    rw is (next_turn_fits AMOUNT (added_at a.wholes.now a.balance.now a.revision.now) l.s (λ j m. (h j (omega arith) m).1) _ l.invariant.3 (omega arith))
 
 pub loop-s-preserved : goal.loop-s-preserved
 loop-s-preserved c =
@@ -73,7 +73,7 @@ loop-s-preserved c =
       omega arith,
       h,
       fill_step l.invariant.2 (omega arith) (added_back a.wholes.now a.balance.now a.revision.now l.s w z is),
-      rw is (ap (of_z w64) (next_turn AMOUNT (added_at a.wholes.now a.balance.now a.revision.now) l.s (λ j m. (h j (omega arith) m).1) l.invariant.3 (omega arith))),
+      rw is (next_turn_kept AMOUNT (added_at a.wholes.now a.balance.now a.revision.now) l.s (λ j m. (h j (omega arith) m).1) _ l.invariant.3 (omega arith)),
     )
 
 pub returns-then-sum-lt0 : goal.returns-then-sum-lt0
@@ -81,8 +81,7 @@ returns-then-sum-lt0 c =
     let a = c.args in
     let l = c.loop-s in
     let e : l.s ≡ a.n = omega arith in
-    let h : (s : ℕ) → s < a.n → Added a.wholes.now a.balance.now a.revision.now s = λ s m. l.invariant.1 s (omega arith) (omega arith) in
-    let q = balances_back a.wholes.now a.balance.now a.revision.now a.n c.requires.0 h (l.invariant.3 ∙ ap (λ k. of_z w64 (sumZ (added_at a.wholes.now a.balance.now a.revision.now) k)) e) in
+    let q = balances_back a.wholes.now a.balance.now a.revision.now a.n l.invariant.3 e in
     found_none c.wrong-then-sum-lt0.ensures (balances_below a.wholes.now a.balance.now a.revision.now a.n _ q c.if-sum-lt0.true)
 
 pub returns : goal.returns
@@ -91,5 +90,5 @@ returns c =
     let l = c.loop-s in
     let e : l.s ≡ a.n = omega arith in
     let h : (s : ℕ) → s < a.n → Added a.wholes.now a.balance.now a.revision.now s = λ s m. l.invariant.1 s (omega arith) (omega arith) in
-    let q = balances_back a.wholes.now a.balance.now a.revision.now a.n c.requires.0 h (l.invariant.3 ∙ ap (λ k. of_z w64 (sumZ (added_at a.wholes.now a.balance.now a.revision.now) k)) e) in
+    let q = balances_back a.wholes.now a.balance.now a.revision.now a.n l.invariant.3 e in
     balances_found a.wholes.now a.balance.now a.revision.now a.n h _ q c.if-sum-lt0.false (fill_end l.invariant.2 e)

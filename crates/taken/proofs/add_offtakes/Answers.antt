@@ -5,7 +5,7 @@ use native.Mathlib.Omega.{arith}
 use mir.Syntax.{w64}
 use mir.Val.{of_z, to_z}
 use Rattle.numbers.specs.Sums.{sumZ}
-use Rattle.numbers.proofs.Amounts.{back, next_turn, next_turn_fits}
+use Rattle.numbers.proofs.Amounts.{back, next_turn_kept, next_turn_fits}
 use Rattle.numbers.proofs.Filled.{fill_none, fill_step, fill_end}
 use Rattle.state.specs.Places.{ROOM, offtake_at}
 use Rattle.state.proofs.Lows.{offtake_within}
@@ -26,7 +26,7 @@ overflow_add-sum c =
     let low = c.requires.4 in
     let l = c.loop-s in
     rw c.user_offtake-offtake.ensures
-    (next_turn_fits (10 * ROOM) (offtake_at a.consumption.now a.losses.now) l.s (λ j m. offtake_within a.consumption.now a.losses.now j (low j (omega arith))) l.invariant.2 (omega arith))
+    (next_turn_fits (10 * ROOM) (offtake_at a.consumption.now a.losses.now) l.s (λ j m. offtake_within a.consumption.now a.losses.now j (low j (omega arith))) _ l.invariant.2 (omega arith))
 
 pub loop-s-preserved : goal.loop-s-preserved
 loop-s-preserved c =
@@ -38,7 +38,7 @@ loop-s-preserved c =
       omega arith,
       fill_step l.invariant.1 (omega arith) v,
       rw c.user_offtake-offtake.ensures
-          (ap (of_z w64) (next_turn (10 * ROOM) f l.s (λ j m. offtake_within a.consumption.now a.losses.now j (low j (omega arith))) l.invariant.2 (omega arith))),
+          (next_turn_kept (10 * ROOM) f l.s (λ j m. offtake_within a.consumption.now a.losses.now j (low j (omega arith))) _ l.invariant.2 (omega arith)),
     )
 
 pub returns : goal.returns
@@ -48,5 +48,5 @@ returns c =
     let e : l.s ≡ a.n = omega arith in
     let h = c.requires.4 in
     offtakes_found a.consumption.now a.losses.now a.n a.wholes.now _ h _
-    (offtakes_back a.consumption.now a.losses.now a.n c.requires.0 h (l.invariant.2 ∙ ap (λ k. of_z w64 (sumZ (offtake_at a.consumption.now a.losses.now) k)) e))
+    (offtakes_back a.consumption.now a.losses.now a.n l.invariant.2 e)
     (fill_end l.invariant.1 e)

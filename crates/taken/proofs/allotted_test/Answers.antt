@@ -11,7 +11,7 @@ pub returns-then-n-eq0 : goal.returns-then-n-eq0
 returns-then-n-eq0 c = found_none c.wrong.ensures (λ p. p.users c.if-n-eq0.true)
 
 pub returns-then-not-is_measured : goal.returns-then-not-is_measured
-returns-then-not-is_measured c = found_none c.wrong-then-not-is_measured.ensures (λ p. true≢false (sym p.decreases ∙ sym c.is_measured.ensures ∙ not-true _ c.if-not-is_measured.true-raw))
+returns-then-not-is_measured c = found_none c.wrong-then-not-is_measured.ensures (λ p. true≢false (sym p.measured ∙ sym c.is_measured.ensures ∙ not-true _ c.if-not-is_measured.true-raw))
 
 pub returns-then-not-none_past : goal.returns-then-not-none_past
 returns-then-not-none_past c = found_none c.wrong-then-not-none_past.ensures (λ p. c.none_past.ensures.no (not-true _ c.if-not-none_past.true-raw) p.past)

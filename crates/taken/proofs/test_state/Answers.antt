@@ -48,7 +48,7 @@ returns c =
     record {
       is = T.is;
       known = λ y.
-          let u : length a.t5 ≡ USERS = search rules in
+          let u : length a.users ≡ USERS = search rules in
           let t = sym T.is ∙ y in
           record {
             sized = parts_sized a.stage u c.requires;
