@@ -74,7 +74,7 @@ loop-j-init c =
     let low = number_low c.read_u16-user.ensures.1 in
     let named = c.read_u16-user.ensures.0 ∙ ap (λ a. u16 f a) offset in
     let told = c.enter_user-refusal.ensures.value ∙ ap (λ l. user_refusal l u i c.args.users.now) c.requires.3 in
-    let us = c.enter_user-refusal.new.0 in
+    let us = c.enter_user-refusal.new.users in
     let joined = user_joined c.requires.4 u low told c.if-refusal-ne0.false c.enter_user-refusal.ensures.users_after in
     (omega arith, no_lines f (section_at f i) i us c.args.consumption.now c.args.losses.now joined.entered)
 
@@ -100,7 +100,7 @@ enter_line-so_far-requires c =
     let low = number_low c.read_u16-user.ensures.1 in
     let named = c.read_u16-user.ensures.0 ∙ ap (λ a. u16 f a) offset in
     let told = c.enter_user-refusal.ensures.value ∙ ap (λ l. user_refusal l u i c.args.users.now) c.requires.3 in
-    let us = c.enter_user-refusal.new.0 in
+    let us = c.enter_user-refusal.new.users in
     let joined = user_joined c.requires.4 u low told c.if-refusal-ne0.false c.enter_user-refusal.ensures.users_after in
     let t = c.loop-j.invariant.1.entered in
     (omega (arith, inside.section, offset, size), omega (arith, joined.room), sum_small t, limited_consumption t, limited_losses t)
@@ -117,16 +117,16 @@ returns-in_default c =
     let low = number_low c.read_u16-user.ensures.1 in
     let named = c.read_u16-user.ensures.0 ∙ ap (λ a. u16 f a) offset in
     let told = c.enter_user-refusal.ensures.value ∙ ap (λ l. user_refusal l u i c.args.users.now) c.requires.3 in
-    let us = c.enter_user-refusal.new.0 in
+    let us = c.enter_user-refusal.new.users in
     let joined = user_joined c.requires.4 u low told c.if-refusal-ne0.false c.enter_user-refusal.ensures.users_after in
-    let cs = c.enter_line-so_far.new.1.1.1.1.1.0 in
-    let ls = c.enter_line-so_far.new.1.1.1.1.1.1.0 in
+    let cs = c.enter_line-so_far.new.consumption in
+    let ls = c.enter_line-so_far.new.losses in
     let j = c.loop-j.j in
-    let line = (c.enter_line-so_far.ensures.value, (c.enter_line-so_far.ensures.consumption_after, c.enter_line-so_far.ensures.losses_after)) in
+    let line = c.enter_line-so_far.ensures in
     let place = ap (λ a. (a + 2) + 7 * j) offset in
     let both = stopped c.in_default.is (Entered (i + 1) us cs ls) (section_calls f (section_at f i)) (entering i c.args.users.now c.args.consumption.now c.args.losses.now) (entering (i + 1) us cs ls)
     (section_stops f (section_at f i) i c.requires.4 u low named joined c.in_default.field-0
-    (lines_stop f (section_at f i) i us c.args.consumption.now c.args.losses.now (joined.here ∙ named) j c.loop-j.invariant.1 place named (record { answer = line.0; consumption = line.1.0; losses = line.1.1 }) c.in_default.field-0 c.in_default.is (omega (arith, size, c.loop-j-test.true)))) in
+    (lines_stop f (section_at f i) i us c.args.consumption.now c.args.losses.now (joined.here ∙ named) j c.loop-j.invariant.1 place named (record { answer = line.value; consumption = line.consumption_after; losses = line.losses_after }) c.in_default.field-0 c.in_default.is (omega (arith, size, c.loop-j-test.true)))) in
     record { unless_refused = both.0; comes_to = both.1 }
 
 pub loop-j-preserved : goal.loop-j-preserved
@@ -141,15 +141,15 @@ loop-j-preserved c =
     let low = number_low c.read_u16-user.ensures.1 in
     let named = c.read_u16-user.ensures.0 ∙ ap (λ a. u16 f a) offset in
     let told = c.enter_user-refusal.ensures.value ∙ ap (λ l. user_refusal l u i c.args.users.now) c.requires.3 in
-    let us = c.enter_user-refusal.new.0 in
+    let us = c.enter_user-refusal.new.users in
     let joined = user_joined c.requires.4 u low told c.if-refusal-ne0.false c.enter_user-refusal.ensures.users_after in
-    let cs = c.enter_line-so_far.new.1.1.1.1.1.0 in
-    let ls = c.enter_line-so_far.new.1.1.1.1.1.1.0 in
+    let cs = c.enter_line-so_far.new.consumption in
+    let ls = c.enter_line-so_far.new.losses in
     let j = c.loop-j.j in
-    let line = (c.enter_line-so_far.ensures.value, (c.enter_line-so_far.ensures.consumption_after, c.enter_line-so_far.ensures.losses_after)) in
+    let line = c.enter_line-so_far.ensures in
     let place = ap (λ a. (a + 2) + 7 * j) offset in (
       omega (arith, c.loop-j-test.true),
-      one_more_line f (section_at f i) i us c.args.consumption.now c.args.losses.now (joined.here ∙ named) j c.loop-j.invariant.1 place named (record { answer = line.0; consumption = line.1.0; losses = line.1.1 }) c.in-Offtake.more c.in-Offtake.is,
+      one_more_line f (section_at f i) i us c.args.consumption.now c.args.losses.now (joined.here ∙ named) j c.loop-j.invariant.1 place named (record { answer = line.value; consumption = line.consumption_after; losses = line.losses_after }) c.in-Offtake.more c.in-Offtake.is,
     )
 
 pub returns : goal.returns
@@ -164,7 +164,7 @@ returns c =
     let low = number_low c.read_u16-user.ensures.1 in
     let named = c.read_u16-user.ensures.0 ∙ ap (λ a. u16 f a) offset in
     let told = c.enter_user-refusal.ensures.value ∙ ap (λ l. user_refusal l u i c.args.users.now) c.requires.3 in
-    let us = c.enter_user-refusal.new.0 in
+    let us = c.enter_user-refusal.new.users in
     let joined = user_joined c.requires.4 u low told c.if-refusal-ne0.false c.enter_user-refusal.ensures.users_after in
     let cs = c.loop-j.consumption in
     let ls = c.loop-j.losses in

@@ -23,10 +23,10 @@ pub returns-in_default : goal.returns-in_default
 returns-in_default c =
     let a = c.args in
     let f = a.file.now in
-    let after = c.enter_section-so_far.new.1.1.1.1.1 in
-    let us = after.0 in
-    let cs = after.1.0 in
-    let ls = after.1.1.0 in
+    let after = c.enter_section-so_far.new in
+    let us = after.users in
+    let cs = after.consumption in
+    let ls = after.losses in
     let both = stopped c.in_default.is (Entered a.count us cs ls) (flat (map (section_calls f) (sections f))) (entering 0 a.users.now a.consumption.now a.losses.now) (entering a.count us cs ls)
     (sections_stop f a.users.now a.consumption.now a.losses.now c.loop-i.i c.loop-i.invariant.1 c.enter_section-so_far.result us cs ls c.enter_section-so_far.ensures.unless_refused c.enter_section-so_far.ensures.comes_to
     c.in_default.field-0 c.in_default.is (omega (arith, c.requires.2, c.loop-i-test.true))) in
@@ -36,10 +36,10 @@ pub loop-i-preserved : goal.loop-i-preserved
 loop-i-preserved c =
     let a = c.args in
     let f = a.file.now in
-    let after = c.enter_section-so_far.new.1.1.1.1.1 in
-    let us = after.0 in
-    let cs = after.1.0 in
-    let ls = after.1.1.0 in (
+    let after = c.enter_section-so_far.new in
+    let us = after.users in
+    let cs = after.consumption in
+    let ls = after.losses in (
       omega (arith, c.loop-i-test.true),
       one_more_section f a.users.now a.consumption.now a.losses.now c.loop-i.i c.loop-i.invariant.1 c.enter_section-so_far.result us cs ls c.enter_section-so_far.ensures.unless_refused c.enter_section-so_far.ensures.comes_to
           c.in-Offtake.more c.in-Offtake.is,
