@@ -1,5 +1,5 @@
 -- `split::give` meets its contract. Assumes nothing.
-use Rattle.std.proofs.Common.{◌-◌, get_or, ap, ◌∙◌, arith, w64, to_z, of_z}
+use Rattle.std.proofs.Common.{get_or, ap, ◌∙◌, arith, w64, to_z, of_z}
 use Rattle.numbers.proofs.Filled.{fill_none, fill_step, fill_end}
 use Rattle.numbers.proofs.Amounts.{back, within_sign}
 use Rattle.split.proofs.give.Goals as goal

@@ -1,5 +1,5 @@
 -- `split::none_above` meets its contract: no number passed so far is above the limit. Assumes nothing.
-use Rattle.std.proofs.Common.{◌-◌, sym, arith, below_more}
+use Rattle.std.proofs.Common.{sym, arith, below_more}
 use Rattle.split.proofs.Call.{every_below, every_above}
 use Rattle.split.proofs.none_above.Goals as goal
 

@@ -16,7 +16,7 @@ slice_bounds-split_signed-end-else-n-le-FEW c = take_long 366 _ 0 c.many-shares.
 pub split_signed-requires-else-n-le-FEW : goal.split_signed-requires-else-n-le-FEW
 split_signed-requires-else-n-le-FEW c =
     let k = take_long 366 (length c.args.ws.now) 0 c.many-shares.ensures (omega arith) in
-    ((rw (to_z-of_z c.ranges.amount) c.requires.within.0, c.requires.within.1, c.requires.within.2, c.requires.within.3, c.requires.within.4), (c.requires.ws_in_bounds.0, sym k, c.requires.ws_in_bounds.1))
+    record { within = (rw (to_z-of_z c.ranges.amount) c.requires.within.0, c.requires.within.1, c.requires.within.2, c.requires.within.3, c.requires.within.4); ws_in_bounds = (c.requires.ws_in_bounds.0, sym k, c.requires.ws_in_bounds.1) }
 
 pub returns-then-n-le-FEW : goal.returns-then-n-le-FEW
 returns-then-n-le-FEW c = rw (to_z-of_z c.ranges.amount) at c.split_signed.ensures

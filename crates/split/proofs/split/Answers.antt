@@ -22,8 +22,7 @@ weight_total-requires c =
 pub prorate_signed-requires : goal.prorate_signed-requires
 prorate_signed-requires c =
     let r = ranged c.args.amount c.args.ws.now c.args.keys.now (sym (rw (to_z-of_z c.ranges.amount) at c.in_range.ensures) ∙ not-false _ c.if-not-in_range.false-raw) in
-    let both = rw (to_z-of_z c.ranges.amount) ((r.amount, c.weight_total.ensures, r.some, r.few, r.weights), (omega (arith, r.keyed), c.if-out-ws.false)) in
-    record { within = both.0; ws_in_bounds = both.1 }
+    record { within = (rw (to_z-of_z c.ranges.amount) r.amount, c.weight_total.ensures, r.some, r.few, r.weights); ws_in_bounds = (omega (arith, r.keyed), c.if-out-ws.false) }
 
 pub returns : goal.returns
 returns c =

@@ -1,5 +1,5 @@
 -- `split::keys::are_distinct` meets its contract: the keys passed so far are distinct, and their buckets are marked. Assumes nothing.
-use Rattle.std.proofs.Common.{◌-◌, length, sym, ap, ◌∙◌, arith, take_all}
+use Rattle.std.proofs.Common.{length, sym, ap, ◌∙◌, arith, take_all}
 use lib.Seq.{take-length}
 use Rattle.numbers.specs.Lists.{distinct}
 use Rattle.numbers.proofs.Buckets.{scanned_none, scanned_more, scanned_twice}

@@ -1,5 +1,5 @@
 -- `split::keys::stands_before` meets its contract: the key stands at no place passed so far. Assumes nothing.
-use Rattle.std.proofs.Common.{◌≡◌, ◌-◌, false, take, sym, ap, ◌∙◌, arith}
+use Rattle.std.proofs.Common.{◌≡◌, take, sym, ap, ◌∙◌, arith}
 use borrow.Author.Tests.{not-true, not-false}
 use Rattle.numbers.specs.Lists.{has}
 use Rattle.numbers.proofs.Lists.{scan_none, scan_more, scan_found}

@@ -13,4 +13,4 @@ pub slice_bounds-split-end-else-n-le-FEW : goal.slice_bounds-split-end-else-n-le
 slice_bounds-split-end-else-n-le-FEW c = take_long 366 _ 0 c.many-rems.ensures c.requires.amount_bound.3
 
 pub split-requires-else-n-le-FEW : goal.split-requires-else-n-le-FEW
-split-requires-else-n-le-FEW c = ((c.requires.amount_bound.0, c.requires.amount_bound.1, c.requires.amount_bound.2, c.requires.amount_bound.4), (c.requires.ws_in_bounds.0, sym (take_long 366 (length c.args.ws.now) 0 c.many-rems.ensures c.requires.amount_bound.3), c.requires.ws_in_bounds.1))
+split-requires-else-n-le-FEW c = record { amount_bound = (c.requires.amount_bound.0, c.requires.amount_bound.1, c.requires.amount_bound.2, c.requires.amount_bound.4); ws_in_bounds = (c.requires.ws_in_bounds.0, sym (take_long 366 (length c.args.ws.now) 0 c.many-rems.ensures c.requires.amount_bound.3), c.requires.ws_in_bounds.1) }

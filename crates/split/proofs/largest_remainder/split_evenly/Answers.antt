@@ -23,7 +23,7 @@ split_counted-requires-else-n-le-FEW c =
     let n = c.args.n in
     let e = take_same PARTIES n 1 c.many-ones.ensures (omega arith) in
     let l = take_long PARTIES n 1 c.many-ones.ensures (omega arith) in
-    ((p.0, p.1, sym (ones_total n e), omega arith, ones_bounded n e LARGEST_WEIGHT (omega arith)), (omega arith, omega arith))
+    record { amount_bound = (p.0, p.1, sym (ones_total n e), omega arith, ones_bounded n e LARGEST_WEIGHT (omega arith)); ws_in_bounds = (omega arith, omega arith) }
 
 pub returns-then-n-le-FEW : goal.returns-then-n-le-FEW
 returns-then-n-le-FEW c =

@@ -4,4 +4,4 @@ use Rattle.std.proofs.Common.{arith}
 use Rattle.split.proofs.leftover.is_tied.Goals as goal
 
 pub returns : goal.returns
-returns c = omega (arith, and_le_r c.wrapping_sub_u64-same.result c.wrapping_sub_u64.result, c.wrapping_sub_u64.type-inv)
+returns c = omega (arith, and_le_r c.wrapping_sub_u64-same.result c.wrapping_sub_u64.result, c.wrapping_sub_u64.type_inv)

@@ -1,5 +1,5 @@
 -- `split::leftover::serve_ahead` meets its contract. Assumes nothing.
-use Rattle.std.proofs.Common.{◌+◌, ◌-◌, ap₂, arith}
+use Rattle.std.proofs.Common.{◌+◌, ap₂, arith}
 use Rattle.numbers.specs.Sums.{at}
 use Rattle.proration.specs.Proration.{ahead}
 use Rattle.numbers.proofs.Sums.{bit_small}

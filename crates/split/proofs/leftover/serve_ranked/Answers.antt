@@ -1,5 +1,5 @@
 -- `split::leftover::serve_ranked` meets its contract. Assumes nothing.
-use Rattle.std.proofs.Common.{◌+◌, ◌-◌, ltb, ap, ◌∙◌, ap₂, arith}
+use Rattle.std.proofs.Common.{◌+◌, ltb, ap, ◌∙◌, ap₂, arith}
 use Rattle.numbers.specs.Sums.{bit}
 use Rattle.numbers.proofs.Sums.{bit_small}
 use Rattle.numbers.proofs.Filled.{fill_none, fill_step, fill_next, fill_end}
