@@ -10,7 +10,7 @@ use native.Mathlib.Nat.{le_of_eq}
 use lib.Dec.{leb, ltb}
 use lib.ListN.{length, drop}
 use lib.Seq.{drop-cons}
-use borrow.Author.Tests.{le-leb, lt-leb, leb-true, lt-ltb, le-ltb, ltb-true, ne_eqb}
+use borrow.Author.Tests.{le-leb, lt-leb, leb-true, ltb-true, ne_eqb}
 use Rattle.numbers.specs.Sums.{at}
 use Rattle.numbers.specs.Lists.{both, every, has, rising}
 use Rattle.numbers.proofs.Sums.{lt_or_ge}

@@ -1,6 +1,5 @@
 -- `calendar::are_rising` meets its contract. The whole list rises just where it rises so far and the rest does. Assumes nothing.
 use mathlib.Core.Path.{refl, sym, ◌∙◌, ap}
-use Prim.Native.Nat.{◌-◌}
 use Rattle.numbers.specs.Lists.{both}
 use Rattle.numbers.proofs.Lists.{both_and, both_end}
 use Rattle.calendar.proofs.Holidays.{rises_step, rises_end}

@@ -18,19 +18,19 @@ none = record { reading = Nothing }
 
 pub loop-i-init : goal.loop-i-init
 loop-i-init c =
-    let long : length c.args.t1 ≡ 400 = search rules in
+    let long : length c.args.history ≡ 400 = search rules in
     (omega arith, omega (arith, c.requires), refl)
 
 pub loop-i-preserved : goal.loop-i-preserved
 loop-i-preserved c =
     let s = c.args in
     let l = c.loop-i in
-    let first = take s.count s.t1 in
-    let here : entry_right (get_or first l.i none) ≡ c.is_reading-right.result = ap entry_right (get_or-take s.count s.t1 l.i none (omega arith)) ∙ sym c.is_reading-right.ensures in (
+    let first = take s.count s.history in
+    let here : entry_right (get_or first l.i none) ≡ c.is_reading-right.result = ap entry_right (get_or-take s.count s.history l.i none (omega arith)) ∙ sym c.is_reading-right.ensures in (
       omega arith,
       l.invariant.1,
       l.invariant.2
-          ∙ ap (both l.right) (every_step entry_right none first l.i (omega (arith, length-take-le s.count s.t1 l.invariant.1)) ∙ ap (λ b. both b (every entry_right (drop (l.i + 1) first))) here)
+          ∙ ap (both l.right) (every_step entry_right none first l.i (omega (arith, length-take-le s.count s.history l.invariant.1)) ∙ ap (λ b. both b (every entry_right (drop (l.i + 1) first))) here)
           ∙ both_and l.right c.is_reading-right.result (every entry_right (drop (l.i + 1) first)),
     )
 
@@ -38,5 +38,5 @@ pub returns : goal.returns
 returns c =
     let s = c.args in
     let l = c.loop-i in
-    let first = take s.count s.t1 in
-    sym (l.invariant.2 ∙ ap (both l.right) (every_end entry_right none first l.i (omega (arith, length-take-le s.count s.t1 l.invariant.1))) ∙ both_end l.right)
+    let first = take s.count s.history in
+    sym (l.invariant.2 ∙ ap (both l.right) (every_end entry_right none first l.i (omega (arith, length-take-le s.count s.history l.invariant.1))) ∙ both_end l.right)

@@ -1,5 +1,7 @@
 -- `months::days_of_month` meets its contract. Each arm of the match is a case of the definition. Assumes nothing.
 use mathlib.Core.Path.{◌≡◌}
+use mathlib.Core.Logic.{◌⊎◌}
+use Rattle.std.proofs.Common.{rules}
 use Prim.Native.Nat.{◌%◌}
 use borrow.Author.Tests.{eq-eqb, ne_eqb}
 use Rattle.months.specs.Months.{month_days}
@@ -26,4 +28,7 @@ pub returns-in-4 : goal.returns-in-4
 returns-in-4 c = days_30 _ _ c.in-4.is
 
 pub returns-in_default : goal.returns-in_default
-returns-in_default c = days_31 _ _ c.in_default.rest.0.1 c.in_default.rest.1
+returns-in_default c =
+    let a : c.args.month ≡ 2 → ⊥ = search rules in
+    let b : (c.args.month ≡ 4) ⊎ ((c.args.month ≡ 6) ⊎ ((c.args.month ≡ 9) ⊎ (c.args.month ≡ 11))) → ⊥ = search rules in
+    days_31 _ _ a b

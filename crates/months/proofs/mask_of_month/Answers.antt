@@ -1,7 +1,7 @@
 -- `months::mask_of_month` meets its contract. The mask of the days passed; each day's bit is shifted to its place. Assumes nothing.
 use mathlib.Core.Bool.{Bool}
 use mathlib.Core.Path.{◌≡◌}
-use Prim.Native.Nat.{ℕ, ◌+◌, ◌-◌}
+use Prim.Native.Nat.{ℕ, ◌+◌}
 use native.Mathlib.Omega.{arith}
 use Rattle.numbers.proofs.Sums.{sum_none}
 use Rattle.calendar.specs.DayTypes.{is_working}

@@ -1,6 +1,6 @@
 -- `months::month_of_day` meets its contract. `first` is the start of month `n` and not after the day; four years have 1,461 days and 48 months. Assumes nothing.
 use mathlib.Core.Path.{sym, ap₂, ◌∙◌}
-use Prim.Native.Nat.{◌+◌, ◌-◌, ◌/◌, ◌%◌}
+use Prim.Native.Nat.{◌+◌, ◌/◌, ◌%◌}
 use native.Mathlib.Omega.{arith}
 use Rattle.months.proofs.Months.{some_length, start_cycles, start_next, is_month, month_is}
 use Rattle.months.proofs.month_of_day.Goals as goal
