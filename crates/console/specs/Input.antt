@@ -1,4 +1,4 @@
--- What a program reads from its input: numbers one after the other, little_endian; what is cut short or has no meaning fails. Assumes
+-- What a program reads from its input: numbers one after the other, little-endian; what is cut short or has no meaning fails. Assumes
 -- nothing. No exported contract leans on it.
 use Rattle.std.specs.Prelude.{Bool, true, false, List, [], ◌∷◌, ◌≡◌, refl, ℕ, zero, suc, ◌+◌, ◌≤◌, ◌<◌, leb, ℤ, pos, negsuc, length}
 use Rattle.numbers.specs.Sums.{pick, table}

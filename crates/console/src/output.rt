@@ -1,62 +1,57 @@
-// What the programs print, line by line. The kit's printing functions promise nothing about the bytes, and so neither do these.
-use libc::STDOUT_FILENO;
+// What the programs print, line by line. Nothing is promised about the bytes.
+use std::io;
+use std::io::Write;
 
-pub fn text(bytes: &[u8]) {
-    io::write_all(STDOUT_FILENO, bytes);
+pub fn text<W: Write>(out: &mut W, bytes: &[u8]) -> io::Result<()> {
+    out.write_all(bytes)
 }
 
 // A space and a number.
-pub fn amount(x: i64) {
-    text(b" ");
-    if x < 0 {
-        text(b"-");
-    }
-    io::print_decimal(STDOUT_FILENO, wire::magnitude(x));
+pub fn amount<W: Write>(out: &mut W, x: i64) -> io::Result<()> {
+    write!(out, " {x}")
 }
 
 // Each with a space before it.
-pub fn amounts(xs: &[i64]) {
-    let mut i = 0;
-    while i < xs.len() {
-        amount(xs[i]);
-        i += 1;
+pub fn amounts<W: Write>(out: &mut W, xs: &[i64]) -> io::Result<()> {
+    for x in xs {
+        amount(out, *x)?;
     }
+    Ok(())
 }
 
-pub fn number(n: u64) {
-    text(b" ");
-    io::print_decimal(STDOUT_FILENO, n);
+pub fn number<W: Write>(out: &mut W, n: u64) -> io::Result<()> {
+    write!(out, " {n}")
 }
 
-pub fn user(n: u16) {
-    number(n as u64);
+pub fn user<W: Write>(out: &mut W, n: u16) -> io::Result<()> {
+    number(out, n as u64)
 }
 
-pub fn end() {
-    text(b"\n");
+pub fn end<W: Write>(out: &mut W) -> io::Result<()> {
+    text(out, b"\n")
 }
 
-pub fn malformed() {
-    text(b"malformed\n");
+pub fn malformed<W: Write>(out: &mut W) -> io::Result<()> {
+    text(out, b"malformed\n")
 }
 
-pub fn refused(n: u8) {
-    text(b"refused");
-    number(n as u64);
-    end();
+pub fn refused<W: Write>(out: &mut W, n: u8) -> io::Result<()> {
+    text(out, b"refused")?;
+    number(out, n as u64)?;
+    end(out)
 }
 
 // A name and a number.
-pub fn one(name: &[u8], n: u64) {
-    text(name);
-    number(n);
-    end();
+pub fn one<W: Write>(out: &mut W, name: &[u8], n: u64) -> io::Result<()> {
+    text(out, name)?;
+    number(out, n)?;
+    end(out)
 }
 
 // A name and two numbers.
-pub fn two(name: &[u8], m: u64, n: u64) {
-    text(name);
-    number(m);
-    number(n);
-    end();
+pub fn two<W: Write>(out: &mut W, name: &[u8], m: u64, n: u64) -> io::Result<()> {
+    text(out, name)?;
+    number(out, m)?;
+    number(out, n)?;
+    end(out)
 }

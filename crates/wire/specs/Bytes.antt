@@ -1,4 +1,4 @@
--- Numbers in bytes, little_endian. Assumes nothing.
+-- Numbers in bytes, little-endian. Assumes nothing.
 use Rattle.std.specs.Prelude.{List, [], ◌∷◌, ◌≡◌, refl, ℕ, zero, suc, ◌+◌, ◌-◌, ◌*◌, ltb, ℤ, pos, negsuc}
 use Rattle.numbers.specs.Sums.{pick, at}
 

@@ -14,7 +14,7 @@ fn wide(x: u8) -> u64
     x as u64
 }
 
-// Numbers read from bytes, little_endian.
+// Numbers read from bytes, little-endian.
 
 pub fn read_u8(s: &[u8], i: usize) -> u64
     requires { i < length s.now }

@@ -5,19 +5,13 @@ use mathlib.Core.List.{[], ◌∷◌}
 use Prim.Native.Nat.{◌+◌}
 use native.Mathlib.Omega.{arith}
 use lib.IntN.{nat_abs}
-use lib.ListN.{length, length-set}
+use lib.ListN.{length}
 use mir.Facts.{to_z-of_z}
 use Rattle.numbers.specs.Amounts.{is_negative}
 use Rattle.numbers.proofs.Amounts.{lt_zero}
 use Rattle.wire.specs.Text.{natural, decimal, written}
 use Rattle.wire.proofs.Text.{written_more, written_one, decimal_negative, decimal_positive}
 use Rattle.wire.proofs.put_decimal.Goals as goal
-
-pub put_natural-requires : goal.put_natural-requires
-put_natural-requires c = omega (arith, length-set c.args.out.now c.args.i 45)
-
-pub shape_of-out-then-x-lt0 : goal.shape_of-out-then-x-lt0
-shape_of-out-then-x-lt0 c = c.put_natural.auto.out ∙ length-set c.args.out.now c.args.i 45
 
 pub returns-then-x-lt0 : goal.returns-then-x-lt0
 returns-then-x-lt0 c =

@@ -1,0 +1,17 @@
+-- `console::cursor::read_u64` meets its contract. Assumes nothing.
+use mathlib.Core.Path.{◌∙◌}
+use native.Mathlib.Omega.{arith}
+use Rattle.console.proofs.cursor.Input.{inside, read_whole, not_read}
+use Rattle.console.proofs.cursor.read_u64.Goals as goal
+
+pub returns-then-not-has_left : goal.returns-then-not-has_left
+returns-then-not-has_left c = (c.no_number.ensures.0 ∙ not_read c.args.input.now c.args.from 8 c.has_left.ensures c.if-not-has_left.true-raw, c.no_number.ensures.1)
+
+pub read_u64-value-requires : goal.read_u64-value-requires
+read_u64-value-requires c = inside c.args.input.now c.args.from 8 c.has_left.ensures c.if-not-has_left.false-raw
+
+pub overflow_add-next : goal.overflow_add-next
+overflow_add-next c = omega (arith, inside c.args.input.now c.args.from 8 c.has_left.ensures c.if-not-has_left.false-raw)
+
+pub returns : goal.returns
+returns c = (read_whole c.args.input.now c.args.from 8 c.has_left.ensures c.if-not-has_left.false-raw c.read_u64-value.ensures, record { not_before = omega arith })
