@@ -25,16 +25,16 @@ returns-then-user-eq0 c = found (not-false _ c.if-not-state.false-raw) (λ d k. 
 
 pub slot_of-requires : goal.slot_of-requires
 slot_of-requires c =
-    let long : length c.args.t1.users ≡ USERS = search rules in
+    let long : length c.args.state.users ≡ USERS = search rules in
     omega (arith, c.requires (not-false _ c.if-not-state.false-raw), long)
 
 pub returns-then-slot_of-count : goal.returns-then-slot_of-count
 returns-then-slot_of-count c =
     let n = c.args.user in
     let p = c.slot_of in
-    let y = not-false _ c.if-not-state.false-raw in
-    let long : length c.args.t1.users ≡ USERS = search rules in
-    let few : c.args.t1.count ≤ length c.args.t1.users = omega (arith, c.requires y, long) in
+    let y : c.args.state.taken ≡ true = not-false _ c.if-not-state.false-raw in
+    let long : length c.args.state.users ≡ USERS = search rules in
+    let few : c.args.state.count ≤ length c.args.state.users = omega (arith, c.requires y, long) in
     found y
     (λ d k.
     let h : has n (take d.count d.users) ≡ true = rw (k.count, k.users) (sym (before_is n _ _ p.result few p.ensures) ∙ lt-ltb _ _ c.if-slot_of-count.true) in
@@ -44,9 +44,9 @@ pub returns-then-count-ge-USERS : goal.returns-then-count-ge-USERS
 returns-then-count-ge-USERS c =
     let n = c.args.user in
     let p = c.slot_of in
-    let y = not-false _ c.if-not-state.false-raw in
-    let long : length c.args.t1.users ≡ USERS = search rules in
-    let few : c.args.t1.count ≤ length c.args.t1.users = omega (arith, c.requires y, long) in
+    let y : c.args.state.taken ≡ true = not-false _ c.if-not-state.false-raw in
+    let long : length c.args.state.users ≡ USERS = search rules in
+    let few : c.args.state.count ≤ length c.args.state.users = omega (arith, c.requires y, long) in
     found y
     (λ d k.
     let h : has n (take d.count d.users) ≡ false = rw (k.count, k.users) (sym (before_is n _ _ p.result few p.ensures) ∙ le-ltb _ _ c.if-slot_of-count.false) in
@@ -56,9 +56,9 @@ pub returns : goal.returns
 returns c =
     let n = c.args.user in
     let p = c.slot_of in
-    let y = not-false _ c.if-not-state.false-raw in
-    let long : length c.args.t1.users ≡ USERS = search rules in
-    let few : c.args.t1.count ≤ length c.args.t1.users = omega (arith, c.requires y, long) in
+    let y : c.args.state.taken ≡ true = not-false _ c.if-not-state.false-raw in
+    let long : length c.args.state.users ≡ USERS = search rules in
+    let few : c.args.state.count ≤ length c.args.state.users = omega (arith, c.requires y, long) in
     found y
     (λ d k.
     let h : has n (take d.count d.users) ≡ false = rw (k.count, k.users) (sym (before_is n _ _ p.result few p.ensures) ∙ le-ltb _ _ c.if-slot_of-count.false) in
