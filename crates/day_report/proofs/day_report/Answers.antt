@@ -11,7 +11,7 @@ returns-then-out-lt-REPORT_ROOM c =
 pub returns-in-Refused : goal.returns-in-Refused
 returns-in-Refused c =
     let both = by_refusal c.args.file.now c.args.out.now (omega (arith, c.if-out-lt-REPORT_ROOM.false)) c.write_report-answer.result c.write_report-answer.ensures.result_value c.write_report-answer.ensures.out_after
-    c.in-Refused.is p.Put-refused.ensures.0 p.Put-refused.ensures.1 in
+    c.in-Refused.is c.put_refused.ensures.value c.put_refused.ensures.out_after in
     record { value = both.0; out_after = both.1.0; prefix_len = both.1.1 }
 
 pub returns-in-Written : goal.returns-in-Written
