@@ -26,4 +26,4 @@ pub returns : goal.returns
 returns c =
     let a = c.args in
     let p = passed (in_numbers c.test_numbers-state.ensures c.measure_test-number.ensures) (λ q. omega (arith, c.if-number-ne0.false)) in
-    effect.decreases a.day.now p.0 a.emission a.downstream (p.1.passed c.if-number-ne0.false) refl c.store_measurement.ensures
+    effect.measured a.day.now p.0 a.emission a.downstream (p.1.passed c.if-number-ne0.false) refl c.store_measurement.ensures
