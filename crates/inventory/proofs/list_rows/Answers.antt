@@ -28,7 +28,7 @@ count_rows-rows-requires c =
 pub overflow_mul-rows : goal.overflow_mul-rows
 overflow_mul-rows c =
     let a = c.args in
-    omega (arith, c.count_rows-rows.ensures, count_le a.consumption.now a.losses.now a.balance.now (KINDS * a.t1.count), c.requires.0 (not-false _ c.if-not-state.false-raw))
+    omega (arith, c.count_rows-rows.ensures, count_le a.consumption.now a.losses.now a.balance.now (KINDS * a.state.count), c.requires.0 (not-false _ c.if-not-state.false-raw))
 
 pub returns-then-out-rows : goal.returns-then-out-rows
 returns-then-out-rows c =

@@ -20,18 +20,18 @@ returns-then-state c =
 
 pub slot_of-slot-requires : goal.slot_of-slot-requires
 slot_of-slot-requires c =
-    let long : length c.args.t1.users ≡ USERS = search rules in
+    let long : length c.args.state.users ≡ USERS = search rules in
     omega (arith, (c.requires (not-false _ c.if-not-state.false-raw)).0, long)
 
 pub overflow_cast-state : goal.overflow_cast-state
 overflow_cast-state c =
-    let f = sum_fits c.args.t1.sum (c.requires (not-false _ c.if-not-state.false-raw)).1 in
+    let f = sum_fits c.args.state.sum (c.requires (not-false _ c.if-not-state.false-raw)).1 in
     rw f.0 (tt, omega (arith, f.1))
 
 pub slot_test-requires : goal.slot_test-requires
 slot_test-requires c =
     let p = c.requires (not-false _ c.if-not-state.false-raw) in
-    let f = sum_fits c.args.t1.sum p.1 in
+    let f = sum_fits c.args.state.sum p.1 in
     (c.slot_of-slot.ensures.within, p.0, rw f.0 f.1)
 
 pub returns : goal.returns

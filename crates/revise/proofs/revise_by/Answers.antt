@@ -22,5 +22,5 @@ pub returns-in-Assigned : goal.returns-in-Assigned
 returns-in-Assigned c =
     let a = c.args in
     let f : SFits w64 c.in-Assigned.amount = search rules in
-    let A : Assigns a.tolerance a.t1 c.in-Assigned.amount _ = rw c.in-Assigned.is at (c.revise_test-test.ensures.of _ c.test_day-state.ensures refl) in
+    let A : Assigns a.tolerance a.day c.in-Assigned.amount _ = rw c.in-Assigned.is at (c.revise_test-test.ensures.of _ c.test_day-state.ensures refl) in
     (rw (to_z-of_z f) at c.assigned.ensures) ∙ A.is

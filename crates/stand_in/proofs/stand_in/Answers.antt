@@ -12,7 +12,7 @@ use Rattle.stand_in.proofs.stand_in.Goals as goal
 pub returns : goal.returns
 returns c =
     let a = c.args in
-    let rs = a.t2 in
+    let rs = a.rows in
     let cl : length rs.counts ≡ ROWS = search rules in
     let ul : length rs.users ≡ USERS * ROWS = search rules in
     let zl : length rs.amounts ≡ USERS * ROWS = search rules in
