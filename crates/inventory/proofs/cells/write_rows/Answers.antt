@@ -32,7 +32,7 @@ loop-i-preserved c =
     let hc : SFits w64 (atZ a.consumption.now i) = search rules in
     let hl : SFits w64 (atZ a.losses.now i) = search rules in
     let hb : SFits w64 (atZ a.balance.now i) = search rules in
-    (omega arith, more_written a.users.now a.consumption.now a.losses.now a.balance.now a.out.now i at-loop.place at-loop.out at-loop.invariant.1 (rw (to_z-of_z hc, to_z-of_z hl, to_z-of_z hb) at c.write_row-place.ensures) c.write_row-place.auto.1.1.1.1.1.1.0)
+    (omega arith, more_written a.users.now a.consumption.now a.losses.now a.balance.now a.out.now i at-loop.place at-loop.out at-loop.invariant.1 (rw (to_z-of_z hc, to_z-of_z hl, to_z-of_z hb) at c.write_row-place.ensures) c.write_row-place.auto.out)
 
 pub shape_of-out : goal.shape_of-out
 shape_of-out c = c.loop-i.invariant.1.same
