@@ -10,16 +10,15 @@ use Rattle.spread.proofs.Periods.{weight_summable, reading_fits, total_asks, spl
 use Rattle.spread.proofs.Ranges.{in_range_facts}
 use Rattle.spread.proofs.prorate_days.Goals as goal
 
-sizes-are : (s : tie.Start) {e : List ℕ} → e ≡ map nat_abs s.args.weights.now ++ drop (length s.args.weights.now) s.args.sizes.now → e ≡ map nat_abs s.args.weights.now
-sizes-are s h = fitted (length s.args.weights.now) (map nat_abs s.args.weights.now) s.args.sizes.now h s.requires.1
-
 pub sizes_of-requires : goal.sizes_of-requires
 sizes_of-requires c =
     (omega (arith, c.requires.1), weight_summable c.args.weights.now (in_range_facts c.args.reading c.args.weights.now c.requires.0).weights)
 
 pub weight_total-weight_sum-requires : goal.weight_total-weight_sum-requires
 weight_total-weight_sum-requires c =
-    total_asks c.args.reading c.args.weights.now c.requires.0 (sizes-are s c.sizes_of.ensures)
+    let w = c.args.weights.now in
+    let sizes = fitted (length w) (map nat_abs w) c.args.sizes.now c.sizes_of.ensures c.requires.1 in
+    total_asks c.args.reading w c.requires.0 sizes
 
 pub overflow_cast-reading : goal.overflow_cast-reading
 overflow_cast-reading c =
@@ -28,12 +27,16 @@ overflow_cast-reading c =
 pub prorate_signed-requires : goal.prorate_signed-requires
 prorate_signed-requires c =
     let a = c.args in
-    let both = split_asks a.reading a.weights.now c.requires.0 (sizes-are s c.sizes_of.ensures) (length a.keys.now) c.requires.2 c.write_days.ensures a.out.now
+    let w = a.weights.now in
+    let sizes = fitted (length w) (map nat_abs w) a.sizes.now c.sizes_of.ensures c.requires.1 in
+    let both = split_asks a.reading w c.requires.0 sizes (length a.keys.now) c.requires.2 c.write_days.ensures a.out.now
     c.weight_total-weight_sum.ensures c.requires.3 in
     record { within = both.0; ws_in_bounds = both.1 }
 
 pub returns : goal.returns
 returns c =
     let a = c.args in
-    parts_are a.reading a.weights.now c.requires.0 (sizes-are s c.sizes_of.ensures) (length a.keys.now) c.requires.2 c.write_days.ensures a.out.now
+    let w = a.weights.now in
+    let sizes = fitted (length w) (map nat_abs w) a.sizes.now c.sizes_of.ensures c.requires.1 in
+    parts_are a.reading w c.requires.0 sizes (length a.keys.now) c.requires.2 c.write_days.ensures a.out.now
     c.prorate_signed.ensures

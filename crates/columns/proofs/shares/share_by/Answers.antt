@@ -19,14 +19,14 @@ pub prorate_signed-requires : goal.prorate_signed-requires
 prorate_signed-requires c =
     let a = c.args in
     let p = c.requires in
-    let k = all_keys a.users.now a.keys.now c.keys_of.ensures p.1.1 in
-    let w = fitted (length a.amounts.now) (map nat_abs a.amounts.now) a.weights.now c.sizes_of.ensures (p.1.2 ∙ sym p.0.3) in
-    let l = sizes_long a.amounts.now w in record { within = (rw (to_z-of_z c.ranges.amount) p.0.0, p.1.0 ∙ sym (ap total w), omega arith, omega arith, sizes_bounded a.amounts.now w p.0.4); ws_in_bounds = (omega (arith, ap length k), omega arith) }
+    let k = all_keys a.users.now a.keys.now c.keys_of.ensures p.weight_sum_value.1 in
+    let w = fitted (length a.amounts.now) (map nat_abs a.amounts.now) a.weights.now c.sizes_of.ensures (p.weight_sum_value.2 ∙ sym p.within.3) in
+    let l = sizes_long a.amounts.now w in record { within = (rw (to_z-of_z c.ranges.amount) p.within.0, p.weight_sum_value.0 ∙ sym (ap total w), omega arith, omega arith, sizes_bounded a.amounts.now w p.within.4); ws_in_bounds = (omega (arith, ap length k), omega arith) }
 
 pub returns : goal.returns
 returns c =
     let a = c.args in
     let p = c.requires in
-    let k = all_keys a.users.now a.keys.now c.keys_of.ensures p.1.1 in
-    let w = fitted (length a.amounts.now) (map nat_abs a.amounts.now) a.weights.now c.sizes_of.ensures (p.1.2 ∙ sym p.0.3) in
-    shared_out a.amount a.users.now a.amounts.now a.shares.now k w p.0.3 (rw (to_z-of_z c.ranges.amount) at c.prorate_signed.ensures)
+    let k = all_keys a.users.now a.keys.now c.keys_of.ensures p.weight_sum_value.1 in
+    let w = fitted (length a.amounts.now) (map nat_abs a.amounts.now) a.weights.now c.sizes_of.ensures (p.weight_sum_value.2 ∙ sym p.within.3) in
+    shared_out a.amount a.users.now a.amounts.now a.shares.now k w p.within.3 (rw (to_z-of_z c.ranges.amount) at c.prorate_signed.ensures)

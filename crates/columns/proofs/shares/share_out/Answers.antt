@@ -18,7 +18,7 @@ share_by-requires c =
     let p = c.requires in
     let n = length c.args.users.now in
     let k = take_long USERS n 0 c.column-keys.ensures (omega arith) in
-    let w = take_long USERS n 0 c.column-weights.ensures (omega arith) in record { within = (rw (to_z-of_z c.ranges.amount) p.0.0, p.0.1, p.0.2, p.0.3, p.0.4); weight_sum_value = (p.1.0, sym k, sym w, p.1.1) }
+    let w = take_long USERS n 0 c.column-weights.ensures (omega arith) in record { within = (rw (to_z-of_z c.ranges.amount) p.within.0, p.within.1, p.within.2, p.within.3, p.within.4); weight_sum_value = (p.weight_sum_value.0, sym k, sym w, p.weight_sum_value.1) }
 
 pub returns : goal.returns
 returns c = rw (to_z-of_z c.ranges.amount) at c.share_by.ensures
