@@ -1,6 +1,5 @@
 -- `columns::all_limited` meets its contract: no amount passed so far has it. Assumes nothing.
 use mathlib.Core.Path.{sym, ◌∙◌}
-use Prim.Native.Nat.{◌-◌}
 use native.Mathlib.Omega.{arith}
 use lib.IntN.{ℤ, pos, nat_abs}
 use lib.Dec.{leb}

@@ -1,6 +1,5 @@
 -- `columns::keys_of` meets its contract: a buffer that is filled place by place. Assumes nothing.
 use mathlib.Core.Path.{◌≡◌, sym, ap, ◌∙◌}
-use Prim.Native.Nat.{◌-◌}
 use native.Mathlib.Omega.{arith}
 use lib.ListN.{length}
 use Rattle.numbers.specs.Sums.{table}
