@@ -1,6 +1,6 @@
 -- `history::are_entries` meets its contract. All of the history is in range just where it is so far and the rest is. Assumes nothing.
 use mathlib.Core.Path.{ap, ◌≡◌, refl, sym, ◌∙◌}
-use Prim.Native.Nat.{◌+◌, ◌-◌}
+use Prim.Native.Nat.{◌+◌}
 use native.Mathlib.Omega.{arith}
 use lib.ListN.{get_or, length, take, drop}
 use lib.Seq.{length-take-le, get_or-take}
