@@ -1,7 +1,7 @@
 // Calls on one point-day from bytes: an operation is a byte and its arguments, little-endian; what each call answers is printed.
 #![tactic(auto)]
 
-ghost use Rattle.std.specs.Prelude.{◌≡◌, true, ◌<◌, ◌≤◌, length};
+ghost use Rattle.std.specs.Prelude.{◌≡◌, true, ◌<◌, ◌≤◌, IfOk, length};
 ghost use Rattle.point_day.specs.Limits.{USERS, CELLS};
 ghost use Rattle.point_day.specs.Day.{measurement_right};
 ghost use Rattle.console.specs.Input.{Onward, Moved};
@@ -10,9 +10,10 @@ use console::cursor::{Cursor, MOST_LENT};
 use console::{cursor, output};
 use day_report::REPORT_ROOM;
 use inventory::InventoryAnswer;
-use libc::STDOUT_FILENO;
 use numbers::OUT_OF_RANGE;
 use point_day::{Answer, CELLS, KINDS, Measurement, Outcome, PointDay, Stage};
+use std::io;
+use std::io::{Read, Write};
 
 // The place after an operation, and the point-day after it.
 #[derive(Clone, Copy)]
@@ -24,228 +25,234 @@ struct After {
 // ---- a call's outcome
 
 // Refused, or the call's name and its value.
-fn print_answer(name: &[u8], answer: Answer) {
+fn print_answer<W: Write>(out: &mut W, name: &[u8], answer: Answer) -> io::Result<()> {
     match answer {
-        Answer::Refused(n) => output::refused(n),
+        Answer::Refused(n) => output::refused(out, n),
         Answer::Done => {
-            output::text(name);
-            output::end();
+            output::text(out, name)?;
+            output::end(out)
         }
         Answer::LossesAdded(l) => {
-            output::text(name);
-            output::number(l);
-            output::end();
+            output::text(out, name)?;
+            output::number(out, l)?;
+            output::end(out)
         }
         Answer::RowsLookedAt(k) => {
-            output::text(name);
-            output::number(k as u64);
-            output::end();
+            output::text(out, name)?;
+            output::number(out, k as u64)?;
+            output::end(out)
         }
         Answer::WithinTolerance(x) => {
-            output::text(b"within");
-            output::amount(x);
-            output::end();
+            output::text(out, b"within")?;
+            output::amount(out, x)?;
+            output::end(out)
         }
         Answer::RevisionAssigned(x) => {
-            output::text(name);
-            output::amount(x);
-            output::end();
+            output::text(out, name)?;
+            output::amount(out, x)?;
+            output::end(out)
         }
     }
 }
 
 // The outcome, its answer printed.
-fn settle(name: &[u8], next: Cursor, outcome: Outcome) -> After
-    ensures { Onward next result.next }
+fn settle<W: Write>(
+    out: &mut W,
+    name: &[u8],
+    next: Cursor,
+    outcome: Outcome,
+) -> io::Result<After>
+    ensures { IfOk result (λ done. Onward next done.next) }
 {
     let answer = outcome.answer;
     let day = outcome.day;
-    print_answer(name, answer);
-    After { next, day }
+    print_answer(out, name, answer)?;
+    Ok(After { next, day })
 }
 
 // ---- fresh, join, line, measure
 
-fn fresh(next: Cursor) -> After
-    ensures { Onward next result.next }
+fn fresh<W: Write>(out: &mut W, next: Cursor) -> io::Result<After>
+    ensures { IfOk result (λ done. Onward next done.next) }
 {
-    output::text(b"fresh\n");
-    After {
+    output::text(out, b"fresh\n")?;
+    Ok(After {
         next,
         day: point_day::fresh_day(),
-    }
+    })
 }
 
-fn join(s: &[u8], from: Cursor, day: PointDay) -> After
-    ensures { Onward from result.next }
+fn join<W: Write>(out: &mut W, s: &[u8], from: Cursor, day: PointDay) -> io::Result<After>
+    ensures { IfOk result (λ done. Onward from done.next) }
 {
     let user = cursor::read_u16(s, from);
     let next = user.next;
     if !next.ok {
-        return After { next, day };
+        return Ok(After { next, day });
     }
-    settle(b"join", next, join::join(day, user.value as u16))
+    settle(out, b"join", next, join::join(day, user.value as u16))
 }
 
-fn line(s: &[u8], from: Cursor, day: PointDay) -> After
-    ensures { Onward from result.next }
+fn line<W: Write>(out: &mut W, s: &[u8], from: Cursor, day: PointDay) -> io::Result<After>
+    ensures { IfOk result (λ done. Onward from done.next) }
 {
     let a = arguments_from_bytes::read_line(s, from);
     let next = a.next;
     if !next.ok {
-        return After { next, day };
+        return Ok(After { next, day });
     }
     let r = line::line(day, a.user, a.kind, a.consumption, a.coefficient);
-    settle(b"line", next, r)
+    settle(out, b"line", next, r)
 }
 
-fn edit(s: &[u8], from: Cursor, day: PointDay) -> After
-    ensures { Onward from result.next }
+fn edit<W: Write>(out: &mut W, s: &[u8], from: Cursor, day: PointDay) -> io::Result<After>
+    ensures { IfOk result (λ done. Onward from done.next) }
 {
     let a = arguments_from_bytes::read_line(s, from);
     let next = a.next;
     if !next.ok {
-        return After { next, day };
+        return Ok(After { next, day });
     }
     let r = line::line_by_edit(day, a.user, a.kind, a.consumption, a.coefficient);
-    settle(b"edit", next, r)
+    settle(out, b"edit", next, r)
 }
 
-fn measure(s: &[u8], from: Cursor, day: PointDay) -> After
-    ensures { Onward from result.next }
+fn measure<W: Write>(out: &mut W, s: &[u8], from: Cursor, day: PointDay) -> io::Result<After>
+    ensures { IfOk result (λ done. Onward from done.next) }
 {
     let emission = cursor::read_u64(s, from);
     let downstream = cursor::read_u64(s, emission.next);
     let next = downstream.next;
     if !next.ok {
-        return After { next, day };
+        return Ok(After { next, day });
     }
     let r = measure::measure(day, emission.value, downstream.value);
-    settle(b"measure", next, r)
+    settle(out, b"measure", next, r)
 }
 
 // ---- allot, stand-in, revise, start-final
 
-fn allot(next: Cursor, day: PointDay) -> After
-    ensures { Onward next result.next }
+fn allot<W: Write>(out: &mut W, next: Cursor, day: PointDay) -> io::Result<After>
+    ensures { IfOk result (λ done. Onward next done.next) }
 {
-    settle(b"allot", next, allot::allot(day))
+    settle(out, b"allot", next, allot::allot(day))
 }
 
-fn revise(next: Cursor, day: PointDay) -> After
-    ensures { Onward next result.next }
+fn revise<W: Write>(out: &mut W, next: Cursor, day: PointDay) -> io::Result<After>
+    ensures { IfOk result (λ done. Onward next done.next) }
 {
-    settle(b"revise", next, revise::revise(day))
+    settle(out, b"revise", next, revise::revise(day))
 }
 
-fn stand_in(s: &[u8], from: Cursor, day: PointDay) -> After
-    ensures { Onward from result.next }
+fn stand_in<W: Write>(out: &mut W, s: &[u8], from: Cursor, day: PointDay) -> io::Result<After>
+    ensures { IfOk result (λ done. Onward from done.next) }
 {
     let arguments = arguments_from_bytes::read_rows(s, from);
     let next = arguments.next;
     if !next.ok {
-        return After { next, day };
+        return Ok(After { next, day });
     }
     let rows = arguments.rows;
-    settle(b"stand-in", next, stand_in::stand_in(day, rows))
+    settle(out, b"stand-in", next, stand_in::stand_in(day, rows))
 }
 
-fn start_final(next: Cursor, day: PointDay) -> After
-    ensures { Onward next result.next }
+fn start_final<W: Write>(out: &mut W, next: Cursor, day: PointDay) -> io::Result<After>
+    ensures { IfOk result (λ done. Onward next done.next) }
 {
-    settle(b"start-final", next, start_final::start_final(day))
+    settle(out, b"start-final", next, start_final::start_final(day))
 }
 
 // ---- show
 
-fn print_stage(stage: Stage) {
+fn print_stage<W: Write>(out: &mut W, stage: Stage) -> io::Result<()> {
     match stage {
-        Stage::Provisional => output::text(b"day provisional"),
-        Stage::FinalProvisional => output::text(b"day final-provisional"),
-        Stage::FinalDefinitive => output::text(b"day final-definitive"),
+        Stage::Provisional => output::text(out, b"day provisional"),
+        Stage::FinalProvisional => output::text(out, b"day final-provisional"),
+        Stage::FinalDefinitive => output::text(out, b"day final-definitive"),
     }
 }
 
-fn print_measurement(measurement: Measurement)
+fn print_measurement<W: Write>(out: &mut W, measurement: Measurement) -> io::Result<()>
     requires { measurement_right measurement ≡ true }
 {
     if !state::is_measured(measurement) {
-        output::text(b" unmeasured");
-        return;
+        return output::text(out, b" unmeasured");
     }
-    output::text(b" net");
-    output::number(state::net(measurement));
+    output::text(out, b" net")?;
+    output::number(out, state::net(measurement))
 }
 
 // Consumption, losses and balance of a user and kind.
-fn print_kind<'a>(
+fn print_kind<'a, W: Write>(
+    out: &mut W,
     consumption: &'a [i64; CELLS],
     losses: &'a [i64; CELLS],
     balance: &'a [i64; CELLS],
     cell: usize,
-)
+) -> io::Result<()>
     requires { cell < CELLS }
 {
-    output::amount(consumption[cell]);
-    output::amount(losses[cell]);
-    output::amount(balance[cell]);
+    output::amount(out, consumption[cell])?;
+    output::amount(out, losses[cell])?;
+    output::amount(out, balance[cell])
 }
 
 // A user's number, kinds and revision.
-fn print_user(day: PointDay, slot: usize)
+fn print_user<W: Write>(out: &mut W, day: PointDay, slot: usize) -> io::Result<()>
     requires { slot < USERS }
 {
-    output::text(b"user");
-    output::user(day.users[slot]);
+    output::text(out, b"user")?;
+    output::user(out, day.users[slot])?;
     let mut k = 0;
     while k < KINDS {
         print_kind(
+            out,
             &day.consumption,
             &day.losses,
             &day.balance,
             KINDS * slot + k,
-        );
+        )?;
         k += 1;
     }
-    output::amount(day.revision[slot]);
-    output::end();
+    output::amount(out, day.revision[slot])?;
+    output::end(out)
 }
 
-fn print_users(day: PointDay)
+fn print_users<W: Write>(out: &mut W, day: PointDay) -> io::Result<()>
     requires { day.count ≤ USERS }
 {
     let mut slot = 0;
     while slot < day.count {
-        print_user(day, slot);
+        print_user(out, day, slot)?;
         slot += 1;
     }
+    Ok(())
 }
 
-fn print_day(day: PointDay) {
+fn print_day<W: Write>(out: &mut W, day: PointDay) -> io::Result<()> {
     let state = taken::test_day(day);
     if !state.taken {
-        output::refused(OUT_OF_RANGE);
-        return;
+        return output::refused(out, OUT_OF_RANGE);
     }
     let stage = day.stage;
-    print_stage(stage);
+    print_stage(out, stage)?;
     if day.allotted {
-        output::text(b" allotted");
+        output::text(out, b" allotted")?;
     } else {
-        output::text(b" entering");
+        output::text(out, b" entering")?;
     }
-    output::number(day.count as u64);
+    output::number(out, day.count as u64)?;
     let measurement = day.measurement;
-    print_measurement(measurement);
-    output::end();
-    print_users(day);
+    print_measurement(out, measurement)?;
+    output::end(out)?;
+    print_users(out, day)
 }
 
-fn show(next: Cursor, day: PointDay) -> After
-    ensures { Onward next result.next }
+fn show<W: Write>(out: &mut W, next: Cursor, day: PointDay) -> io::Result<After>
+    ensures { IfOk result (λ done. Onward next done.next) }
 {
-    print_day(day);
-    After { next, day }
+    print_day(out, day)?;
+    Ok(After { next, day })
 }
 
 // ---- load
@@ -275,19 +282,19 @@ fn read_arrays(s: &[u8], from: Cursor, day: PointDay) -> After
     After { next, day: filled }
 }
 
-fn load(s: &[u8], from: Cursor, day: PointDay) -> After
-    ensures { Onward from result.next }
+fn load<W: Write>(out: &mut W, s: &[u8], from: Cursor, day: PointDay) -> io::Result<After>
+    ensures { IfOk result (λ done. Onward from done.next) }
 {
     let head = arguments_from_bytes::read_head(s, from);
     let arrays = read_arrays(s, head.next, day);
     let next = arrays.next;
     if !next.ok {
-        return After { next, day };
+        return Ok(After { next, day });
     }
     let filled = arrays.day;
     let stage = head.stage;
     let measurement = head.measurement;
-    output::text(b"load\n");
+    output::text(out, b"load\n")?;
     let loaded = PointDay {
         stage,
         allotted: head.allotted,
@@ -295,39 +302,39 @@ fn load(s: &[u8], from: Cursor, day: PointDay) -> After
         count: head.count,
         ..filled
     };
-    After { next, day: loaded }
+    Ok(After { next, day: loaded })
 }
 
 // ---- inventory and day file
 
 // The answer, and the lent numbers after it.
-fn print_inventory(day: PointDay, lent: &mut [i64]) {
+fn print_inventory<W: Write>(out: &mut W, day: PointDay, lent: &mut [i64]) -> io::Result<()> {
     let answer = inventory::inventory(day, lent);
     match answer {
         InventoryAnswer::Refused(n) => {
-            output::text(b"refused");
-            output::number(n as u64);
+            output::text(out, b"refused")?;
+            output::number(out, n as u64)?;
         }
         InventoryAnswer::Rows(rows) => {
-            output::text(b"inventory");
-            output::number(rows as u64);
+            output::text(out, b"inventory")?;
+            output::number(out, rows as u64)?;
         }
     }
-    output::amounts(lent);
-    output::end();
+    output::amounts(out, lent)?;
+    output::end(out)
 }
 
-fn inventory(s: &[u8], from: Cursor, day: PointDay) -> After
-    ensures { Onward from result.next }
+fn inventory<W: Write>(out: &mut W, s: &[u8], from: Cursor, day: PointDay) -> io::Result<After>
+    ensures { IfOk result (λ done. Onward from done.next) }
 {
     let length = cursor::at_most(cursor::read_u16(s, from), MOST_LENT as u64);
     let next = length.next;
     if next.ok {
         let m = length.value as usize;
         let mut lent = cursor::lent_numbers();
-        print_inventory(day, &mut lent[..m]);
+        print_inventory(out, day, &mut lent[..m])?;
     }
-    After { next, day }
+    Ok(After { next, day })
 }
 
 // Room for the report. (A call, so that no proof sees its bytes one by one.)
@@ -337,15 +344,15 @@ fn report_room() -> [u8; REPORT_ROOM]
     [0; REPORT_ROOM]
 }
 
-fn print_report(file: &[u8]) {
+fn print_report<W: Write>(out: &mut W, file: &[u8]) -> io::Result<()> {
     let mut text = report_room();
     let n = day_report::day_report(file, &mut text);
-    io::write_all(STDOUT_FILENO, &text[..n]);
+    out.write_all(&text[..n])
 }
 
 // The report on the day file; the point-day of the run stays.
-fn day_file(s: &[u8], from: Cursor, day: PointDay) -> After
-    ensures { Onward from result.next }
+fn day_file<W: Write>(out: &mut W, s: &[u8], from: Cursor, day: PointDay) -> io::Result<After>
+    ensures { IfOk result (λ done. Onward from done.next) }
 {
     let length = cursor::read_u32(s, from);
     let start = length.next;
@@ -353,65 +360,65 @@ fn day_file(s: &[u8], from: Cursor, day: PointDay) -> After
     if next.ok {
         let at = start.at;
         let end = next.at;
-        print_report(&s[at..end]);
+        print_report(out, &s[at..end])?;
     }
-    After { next, day }
+    Ok(After { next, day })
 }
 
 // ---- the run
 
 // The call that a byte stands for, with its arguments.
-fn call(s: &[u8], from: Cursor, byte: u64, day: PointDay) -> After
-    ensures { Onward from result.next }
+fn call<W: Write>(out: &mut W, s: &[u8], from: Cursor, byte: u64, day: PointDay) -> io::Result<After>
+    ensures { IfOk result (λ done. Onward from done.next) }
 {
     match byte {
-        0 => fresh(from),
-        1 => join(s, from, day),
-        2 => line(s, from, day),
-        3 => edit(s, from, day),
-        4 => measure(s, from, day),
-        5 => allot(from, day),
-        6 => stand_in(s, from, day),
-        7 => revise(from, day),
-        8 => start_final(from, day),
-        9 => show(from, day),
-        10 => load(s, from, day),
-        11 => inventory(s, from, day),
-        12 => day_file(s, from, day),
-        _ => After {
+        0 => fresh(out, from),
+        1 => join(out, s, from, day),
+        2 => line(out, s, from, day),
+        3 => edit(out, s, from, day),
+        4 => measure(out, s, from, day),
+        5 => allot(out, from, day),
+        6 => stand_in(out, s, from, day),
+        7 => revise(out, from, day),
+        8 => start_final(out, from, day),
+        9 => show(out, from, day),
+        10 => load(out, s, from, day),
+        11 => inventory(out, s, from, day),
+        12 => day_file(out, s, from, day),
+        _ => Ok(After {
             next: cursor::failed(from),
             day,
-        },
+        }),
     }
 }
 
 // One operation: its byte and its arguments.
-fn step(s: &[u8], from: Cursor, day: PointDay) -> After
-    ensures { Moved from result.next }
+fn step<W: Write>(out: &mut W, s: &[u8], from: Cursor, day: PointDay) -> io::Result<After>
+    ensures { IfOk result (λ done. Moved from done.next) }
 {
     let operation = cursor::read_u8(s, from);
     let next = operation.next;
     if !next.ok {
-        return After { next, day };
+        return Ok(After { next, day });
     }
-    call(s, next, operation.value, day)
+    call(out, s, next, operation.value, day)
 }
 
 // The operations one after the other, from a fresh point-day.
-pub fn run(s: &[u8]) {
+pub fn run<W: Write>(out: &mut W, s: &[u8]) -> io::Result<()> {
     let mut next = cursor::start();
     let mut day = point_day::fresh_day();
     while cursor::has_left(s, next, 1) {
-        let done = step(s, next, day);
+        let done = step(out, s, next, day)?;
         day = done.day;
         next = done.next;
     }
-    console::end_run(next);
+    console::end_run(out, next)
 }
 
-// The same from standard input.
-pub fn run_input() {
+// The same from all of an input.
+pub fn run_input<R: Read, W: Write>(input: &mut R, out: &mut W) -> io::Result<()> {
     let mut room = console::input_room();
-    let n = console::read_input(&mut room);
-    run(&room[..n]);
+    let n = console::read_input(input, out, &mut room)?;
+    run(out, &room[..n])
 }

@@ -3,12 +3,13 @@
 
 use day_file::ENOUGH_BYTES;
 use day_report::REPORT_ROOM;
-use libc::{STDIN_FILENO, STDOUT_FILENO};
+use std::io;
+use std::io::Write;
 
-fn main() {
+fn main(rt: HostRuntime) -> io::Result<()> {
     let mut input = [0u8; ENOUGH_BYTES];
-    let n = io::read_full(STDIN_FILENO, &mut input);
+    let n = console::read_full(&mut rt.reader(), &mut input)?;
     let mut output = [0u8; REPORT_ROOM];
     let m = day_report::day_report(&input[..n], &mut output);
-    io::write_all(STDOUT_FILENO, &output[..m]);
+    io::writer(&rt).write_all(&output[..m])
 }

@@ -2,6 +2,7 @@
 // answers is printed.
 #![tactic(auto)]
 
+ghost use Rattle.std.specs.Prelude.{IfOk};
 ghost use Rattle.console.specs.Input.{Onward, Moved};
 
 use calendar::{DayType, DayTypeAnswer, NumberAnswer};
@@ -10,6 +11,8 @@ use console::{cursor, output};
 use degree_days::DegreeDaysAnswer;
 use months::MonthAnswer;
 use spread::SpreadAnswer;
+use std::io;
+use std::io::{Read, Write};
 use supply::{Amount, Flows, Toll};
 use telemetered::{OwnValue, TelemeteredAnswer};
 use zones::ProvinceAnswer;
@@ -18,10 +21,10 @@ use zones::ProvinceAnswer;
 const MOST_WINTERS: u64 = 8;
 
 // An answer that gives one number, under its name.
-fn print_number(name: &[u8], answer: NumberAnswer) {
+fn print_number<W: Write>(out: &mut W, name: &[u8], answer: NumberAnswer) -> io::Result<()> {
     match answer {
-        NumberAnswer::Refused(n) => output::refused(n),
-        NumberAnswer::Given(v) => output::one(name, v),
+        NumberAnswer::Refused(n) => output::refused(out, n),
+        NumberAnswer::Given(v) => output::one(out, name, v),
     }
 }
 
@@ -42,11 +45,11 @@ fn toll(flag: u64) -> Toll {
     }
 }
 
-fn print_telemetered(answer: TelemeteredAnswer) {
+fn print_telemetered<W: Write>(out: &mut W, answer: TelemeteredAnswer) -> io::Result<()> {
     match answer {
-        TelemeteredAnswer::Refused(n) => output::refused(n),
+        TelemeteredAnswer::Refused(n) => output::refused(out, n),
         TelemeteredAnswer::Consumption { kwh, looked } => {
-            output::two(b"telemetered", kwh, looked as u64)
+            output::two(out, b"telemetered", kwh, looked as u64)
         }
     }
 }
@@ -78,8 +81,8 @@ fn read_flows(s: &[u8], from: Cursor) -> FlowsRead
     FlowsRead { flows, next }
 }
 
-fn telemetered(s: &[u8], from: Cursor) -> Cursor
-    ensures { Onward from result }
+fn telemetered<W: Write>(out: &mut W, s: &[u8], from: Cursor) -> io::Result<Cursor>
+    ensures { IfOk result (λ next. Onward from next) }
 {
     let mut days = values_from_bytes::holiday_room();
     let day = values_from_bytes::read_day(s, from, &mut days);
@@ -105,15 +108,15 @@ fn telemetered(s: &[u8], from: Cursor) -> Cursor
             list,
             count,
         );
-        print_telemetered(answer);
+        print_telemetered(out, answer)?;
     }
-    next
+    Ok(next)
 }
 
 // ---- Type 1 and Type 2
 
-fn toll_34(s: &[u8], from: Cursor) -> Cursor
-    ensures { Onward from result }
+fn toll_34<W: Write>(out: &mut W, s: &[u8], from: Cursor) -> io::Result<Cursor>
+    ensures { IfOk result (λ next. Onward from next) }
 {
     let day = values_from_bytes::read_word(s, from);
     let last_year = values_from_bytes::read_optional(s, day.next);
@@ -129,13 +132,13 @@ fn toll_34(s: &[u8], from: Cursor) -> Cursor
         let month = last_month.amount;
         let flow = year.amount;
         let answer = type_1::toll_34(day.value, last, g.value, &days[..n], month, flow);
-        print_number(b"type1", answer);
+        print_number(out, b"type1", answer)?;
     }
-    next
+    Ok(next)
 }
 
-fn other_toll(s: &[u8], from: Cursor) -> Cursor
-    ensures { Onward from result }
+fn other_toll<W: Write>(out: &mut W, s: &[u8], from: Cursor) -> io::Result<Cursor>
+    ensures { IfOk result (λ next. Onward from next) }
 {
     let mut days = values_from_bytes::holiday_room();
     let day = values_from_bytes::read_day(s, from, &mut days);
@@ -161,9 +164,9 @@ fn other_toll(s: &[u8], from: Cursor) -> Cursor
             f_c.value,
             c_f.value,
         );
-        print_number(b"type1", answer);
+        print_number(out, b"type1", answer)?;
     }
-    next
+    Ok(next)
 }
 
 // Passes over the lists of winters past the second.
@@ -179,8 +182,8 @@ fn pass_winters(s: &[u8], from: Cursor, winters: u64) -> Cursor
     next
 }
 
-fn type_2(s: &[u8], from: Cursor) -> Cursor
-    ensures { Onward from result }
+fn type_2<W: Write>(out: &mut W, s: &[u8], from: Cursor) -> io::Result<Cursor>
+    ensures { IfOk result (λ next. Onward from next) }
 {
     let consumers = values_from_bytes::read_word(s, from);
     let profile = cursor::read_u64(s, consumers.next);
@@ -203,13 +206,13 @@ fn type_2(s: &[u8], from: Cursor) -> Cursor
             &first[..m],
             &second[..n],
         );
-        print_number(b"type2", answer);
+        print_number(out, b"type2", answer)?;
     }
-    next
+    Ok(next)
 }
 
-fn profile(s: &[u8], from: Cursor) -> Cursor
-    ensures { Onward from result }
+fn profile<W: Write>(out: &mut W, s: &[u8], from: Cursor) -> io::Result<Cursor>
+    ensures { IfOk result (λ next. Onward from next) }
 {
     let f1 = cursor::read_u64(s, from);
     let f2 = cursor::read_u64(s, f1.next);
@@ -220,86 +223,85 @@ fn profile(s: &[u8], from: Cursor) -> Cursor
     let next = n2.next;
     if next.ok {
         let answer = type_2::profile(f1.value, f2.value, nc1.value, nc2.value, n1.value, n2.value);
-        print_number(b"profile", answer);
+        print_number(out, b"profile", answer)?;
     }
-    next
+    Ok(next)
 }
 
 // ---- degree days, zones and provinces
 
-fn print_degree_days(answer: DegreeDaysAnswer) {
+fn print_degree_days<W: Write>(out: &mut W, answer: DegreeDaysAnswer) -> io::Result<()> {
     match answer {
-        DegreeDaysAnswer::Refused(n) => output::refused(n),
-        DegreeDaysAnswer::Fortieths(d) => output::one(b"degree-days", d),
+        DegreeDaysAnswer::Refused(n) => output::refused(out, n),
+        DegreeDaysAnswer::Fortieths(d) => output::one(out, b"degree-days", d),
     }
 }
 
-fn degree_days(s: &[u8], from: Cursor) -> Cursor
-    ensures { Onward from result }
+fn degree_days<W: Write>(out: &mut W, s: &[u8], from: Cursor) -> io::Result<Cursor>
+    ensures { IfOk result (λ next. Onward from next) }
 {
     let tmin = values_from_bytes::read_word(s, from);
     let tmax = values_from_bytes::read_word(s, tmin.next);
     let next = tmax.next;
     if next.ok {
-        print_degree_days(degree_days::degree_days(
+        print_degree_days(out, degree_days::degree_days(
             values_from_bytes::signed(tmin.value),
             values_from_bytes::signed(tmax.value),
-        ));
+        ))?;
     }
-    next
+    Ok(next)
 }
 
-fn zone(s: &[u8], from: Cursor) -> Cursor
-    ensures { Onward from result }
+fn zone<W: Write>(out: &mut W, s: &[u8], from: Cursor) -> io::Result<Cursor>
+    ensures { IfOk result (λ next. Onward from next) }
 {
     let hundredths = values_from_bytes::read_word(s, from);
     let next = hundredths.next;
     if next.ok {
-        print_number(b"zone", zones::zone_of(hundredths.value));
+        print_number(out, b"zone", zones::zone_of(hundredths.value))?;
     }
-    next
+    Ok(next)
 }
 
-fn print_province(answer: ProvinceAnswer) {
+fn print_province<W: Write>(out: &mut W, answer: ProvinceAnswer) -> io::Result<()> {
     match answer {
-        ProvinceAnswer::Refused(n) => output::refused(n),
-        ProvinceAnswer::ValueAndZone { value, zone } => output::two(
-            b"province",
+        ProvinceAnswer::Refused(n) => output::refused(out, n),
+        ProvinceAnswer::ValueAndZone { value, zone } => output::two(out, b"province",
             value as u64,
             zone as u64,
         ),
     }
 }
 
-fn province(s: &[u8], from: Cursor) -> Cursor
-    ensures { Onward from result }
+fn province<W: Write>(out: &mut W, s: &[u8], from: Cursor) -> io::Result<Cursor>
+    ensures { IfOk result (λ next. Onward from next) }
 {
     let number = values_from_bytes::read_word(s, from);
     let next = number.next;
     if next.ok {
-        print_province(zones::province_of(number.value));
+        print_province(out, zones::province_of(number.value))?;
     }
-    next
+    Ok(next)
 }
 
 // ---- spreading a reading
 
 // The answer, and the lent numbers after it.
-fn print_spread(reading: u64, weights: &[i64], lent: &mut [i64]) {
+fn print_spread<W: Write>(out: &mut W, reading: u64, weights: &[i64], lent: &mut [i64]) -> io::Result<()> {
     let answer = spread::spread(reading, weights, lent);
     match answer {
         SpreadAnswer::Refused(n) => {
-            output::text(b"refused");
-            output::number(n as u64);
+            output::text(out, b"refused")?;
+            output::number(out, n as u64)?;
         }
-        SpreadAnswer::Done => output::text(b"spread"),
+        SpreadAnswer::Done => output::text(out, b"spread")?,
     }
-    output::amounts(lent);
-    output::end();
+    output::amounts(out, lent)?;
+    output::end(out)
 }
 
-fn spread(s: &[u8], from: Cursor) -> Cursor
-    ensures { Onward from result }
+fn spread<W: Write>(out: &mut W, s: &[u8], from: Cursor) -> io::Result<Cursor>
+    ensures { IfOk result (λ next. Onward from next) }
 {
     let reading = cursor::read_u64(s, from);
     let mut days = cursor::lent_room();
@@ -310,115 +312,115 @@ fn spread(s: &[u8], from: Cursor) -> Cursor
     if next.ok {
         let m = length.value as usize;
         let mut lent = cursor::lent_numbers();
-        print_spread(reading.value, &days[..n], &mut lent[..m]);
+        print_spread(out, reading.value, &days[..n], &mut lent[..m])?;
     }
-    next
+    Ok(next)
 }
 
 // ---- calendar
 
-fn print_day_type(answer: DayTypeAnswer) {
+fn print_day_type<W: Write>(out: &mut W, answer: DayTypeAnswer) -> io::Result<()> {
     match answer {
-        DayTypeAnswer::Refused(n) => output::refused(n),
+        DayTypeAnswer::Refused(n) => output::refused(out, n),
         DayTypeAnswer::Is(t) => match t {
-            DayType::Working => output::text(b"day-type working\n"),
-            DayType::Saturday => output::text(b"day-type saturday\n"),
-            DayType::SundayOrHoliday => output::text(b"day-type sunday\n"),
+            DayType::Working => output::text(out, b"day-type working\n"),
+            DayType::Saturday => output::text(out, b"day-type saturday\n"),
+            DayType::SundayOrHoliday => output::text(out, b"day-type sunday\n"),
         },
     }
 }
 
-fn day_type(s: &[u8], from: Cursor) -> Cursor
-    ensures { Onward from result }
+fn day_type<W: Write>(out: &mut W, s: &[u8], from: Cursor) -> io::Result<Cursor>
+    ensures { IfOk result (λ next. Onward from next) }
 {
     let mut days = values_from_bytes::holiday_room();
     let day = values_from_bytes::read_day(s, from, &mut days);
     let n = day.holidays;
     let next = day.next;
     if next.ok {
-        print_day_type(calendar::day_type(day.value, &days[..n]));
+        print_day_type(out, calendar::day_type(day.value, &days[..n]))?;
     }
-    next
+    Ok(next)
 }
 
-fn print_month(answer: MonthAnswer) {
+fn print_month<W: Write>(out: &mut W, answer: MonthAnswer) -> io::Result<()> {
     match answer {
-        MonthAnswer::Refused(n) => output::refused(n),
+        MonthAnswer::Refused(n) => output::refused(out, n),
         MonthAnswer::Figures {
             first,
             days,
             mask,
             working,
         } => {
-            output::text(b"month");
-            output::number(first as u64);
-            output::number(days as u64);
-            output::number(mask as u64);
-            output::number(working as u64);
-            output::end();
+            output::text(out, b"month")?;
+            output::number(out, first as u64)?;
+            output::number(out, days as u64)?;
+            output::number(out, mask as u64)?;
+            output::number(out, working as u64)?;
+            output::end(out)
         }
     }
 }
 
-fn month(s: &[u8], from: Cursor) -> Cursor
-    ensures { Onward from result }
+fn month<W: Write>(out: &mut W, s: &[u8], from: Cursor) -> io::Result<Cursor>
+    ensures { IfOk result (λ next. Onward from next) }
 {
     let mut days = values_from_bytes::holiday_room();
     let day = values_from_bytes::read_day(s, from, &mut days);
     let n = day.holidays;
     let next = day.next;
     if next.ok {
-        print_month(months::month_figures(day.value, &days[..n]));
+        print_month(out, months::month_figures(day.value, &days[..n]))?;
     }
-    next
+    Ok(next)
 }
 
 // ---- the run
 
 // The call that a byte stands for, with its arguments.
-fn call(s: &[u8], from: Cursor, byte: u64) -> Cursor
-    ensures { Onward from result }
+fn call<W: Write>(out: &mut W, s: &[u8], from: Cursor, byte: u64) -> io::Result<Cursor>
+    ensures { IfOk result (λ next. Onward from next) }
 {
     match byte {
-        1 => telemetered(s, from),
-        2 => toll_34(s, from),
-        3 => other_toll(s, from),
-        4 => type_2(s, from),
-        5 => profile(s, from),
-        6 => degree_days(s, from),
-        7 => zone(s, from),
-        8 => province(s, from),
-        9 => spread(s, from),
-        10 => day_type(s, from),
-        11 => month(s, from),
-        _ => cursor::failed(from),
+        1 => telemetered(out, s, from),
+        2 => toll_34(out, s, from),
+        3 => other_toll(out, s, from),
+        4 => type_2(out, s, from),
+        5 => profile(out, s, from),
+        6 => degree_days(out, s, from),
+        7 => zone(out, s, from),
+        8 => province(out, s, from),
+        9 => spread(out, s, from),
+        10 => day_type(out, s, from),
+        11 => month(out, s, from),
+        _ => Ok(cursor::failed(from)),
     }
 }
 
 // One operation: its byte and its arguments.
-fn step(s: &[u8], from: Cursor) -> Cursor
-    ensures { Moved from result }
+fn step<W: Write>(out: &mut W, s: &[u8], from: Cursor) -> io::Result<Cursor>
+    ensures { IfOk result (λ next. Moved from next) }
 {
     let operation = cursor::read_u8(s, from);
     let next = operation.next;
     if !next.ok {
-        return next;
+        return Ok(next);
     }
-    call(s, next, operation.value)
+    call(out, s, next, operation.value)
 }
 
 // The operations one after the other.
-pub fn run(s: &[u8]) {
+pub fn run<W: Write>(out: &mut W, s: &[u8]) -> io::Result<()> {
     let mut next = cursor::start();
     while cursor::has_left(s, next, 1) {
-        next = step(s, next);
+        next = step(out, s, next)?;
     }
-    console::end_run(next);
+    console::end_run(out, next)
 }
 
-// The same from standard input.
-pub fn run_input() {
+// The same from all of an input.
+pub fn run_input<R: Read, W: Write>(input: &mut R, out: &mut W) -> io::Result<()> {
     let mut room = console::input_room();
-    let n = console::read_input(&mut room);
-    run(&room[..n]);
+    let n = console::read_input(input, out, &mut room)?;
+    run(out, &room[..n])
 }

@@ -2,15 +2,16 @@
 // its shares are printed on a line. The first case that is cut short or out of range ends the run.
 #![tactic(auto)]
 
-ghost use Rattle.std.specs.Prelude.{◌≡◌, length};
+ghost use Rattle.std.specs.Prelude.{◌≡◌, IfOk, length};
 ghost use Rattle.io.specs.Counts.{IsPrefixLen};
 ghost use Rattle.console.specs.Input.{Onward, Moved};
 ghost use Rattle.proration.specs.Proration.{PARTIES};
 
 use console::cursor;
 use console::cursor::Cursor;
-use libc::STDOUT_FILENO;
 use proration::PARTIES;
+use std::io;
+use std::io::{Read, Write};
 
 // The most characters of a line's number with the space before it, and of a line.
 const FIGURE: usize = 22;
@@ -74,43 +75,44 @@ fn shares_buffer() -> [i64; PARTIES]
     [0; PARTIES]
 }
 
-fn print_line(shares: &[i64]) {
+fn print_line<W: Write>(out: &mut W, shares: &[i64]) -> io::Result<()> {
     let mut text = line_buffer();
     let n = put_line(shares, &mut text);
-    io::write_all(STDOUT_FILENO, &text[..n]);
+    out.write_all(&text[..n])
 }
 
 // The split of an amount over the next weights and keys: its shares are printed. What is out of range fails.
-fn run_split(
+fn run_split<W: Write>(
+    out: &mut W,
     s: &[u8],
     from: Cursor,
     amount: i64,
     weights: &mut [u64],
     keys: &mut [u64],
     shares: &mut [i64],
-) -> Cursor
-    ensures { Onward from result }
+) -> io::Result<Cursor>
+    ensures { IfOk result (λ next. Onward from next) }
 {
     let between = read_numbers(s, from, weights);
     let next = read_numbers(s, between, keys);
     if !next.ok {
-        return next;
+        return Ok(next);
     }
     if split::split(amount, weights, keys, shares) != 0 {
-        return cursor::failed(next);
+        return Ok(cursor::failed(next));
     }
-    print_line(shares);
-    next
+    print_line(out, shares)?;
+    Ok(next)
 }
 
 // The next case.
-fn run_case(s: &[u8], from: Cursor) -> Cursor
-    ensures { Moved from result }
+fn run_case<W: Write>(out: &mut W, s: &[u8], from: Cursor) -> io::Result<Cursor>
+    ensures { IfOk result (λ next. Moved from next) }
 {
     let amount = cursor::read_u64(s, from);
     let start = amount.next;
     if !start.ok {
-        return start;
+        return Ok(start);
     }
     let parties = cursor::at_most(cursor::read_u16(s, start), PARTIES as u64);
     let n = parties.value as usize;
@@ -118,6 +120,7 @@ fn run_case(s: &[u8], from: Cursor) -> Cursor
     let mut keys = numbers_buffer();
     let mut shares = shares_buffer();
     run_split(
+        out,
         s,
         parties.next,
         wire::to_signed(amount.value),
@@ -128,17 +131,17 @@ fn run_case(s: &[u8], from: Cursor) -> Cursor
 }
 
 // The cases one after the other.
-pub fn run(s: &[u8]) {
+pub fn run<W: Write>(out: &mut W, s: &[u8]) -> io::Result<()> {
     let mut next = cursor::start();
     while cursor::has_left(s, next, 1) {
-        next = run_case(s, next);
+        next = run_case(out, s, next)?;
     }
-    console::end_run(next);
+    console::end_run(out, next)
 }
 
-// The same from standard input.
-pub fn run_input() {
+// The same from all of an input.
+pub fn run_input<R: Read, W: Write>(input: &mut R, out: &mut W) -> io::Result<()> {
     let mut room = console::input_room();
-    let n = console::read_input(&mut room);
-    run(&room[..n]);
+    let n = console::read_input(input, out, &mut room)?;
+    run(out, &room[..n])
 }
