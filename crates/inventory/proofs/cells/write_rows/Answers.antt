@@ -1,5 +1,4 @@
 -- `inventory::cells::write_rows` meets its contract. Assumes nothing.
-use Prim.Native.Nat.{◌-◌}
 use mir.Syntax.{w64}
 use mir.Val.{SFits}
 use mir.Facts.{to_z-of_z}
