@@ -1,10 +1,8 @@
 -- `spread::prorate_days` meets its contract. Assumes nothing.
-use mathlib.Core.Path.{◌≡◌}
-use mathlib.Core.List.{List, map, ◌++◌}
-use Prim.Native.Nat.{ℕ}
+use mathlib.Core.List.{map}
 use native.Mathlib.Omega.{arith}
 use lib.IntN.{nat_abs}
-use lib.ListN.{length, drop}
+use lib.ListN.{length}
 use Rattle.columns.proofs.Shared.{fitted}
 use Rattle.spread.proofs.Periods.{weight_summable, reading_fits, total_asks, split_asks, parts_are}
 use Rattle.spread.proofs.Ranges.{in_range_facts}

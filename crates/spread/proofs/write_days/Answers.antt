@@ -1,7 +1,7 @@
 -- `spread::write_days` meets its contract. Assumes nothing.
 use mathlib.Core.Path.{◌≡◌, ap, ◌∙◌}
 use Rattle.numbers.specs.Sums.{table}
-use Prim.Native.Nat.{suc, ◌-◌}
+use Prim.Native.Nat.{suc}
 use native.Mathlib.Numerals.{add-one}
 use lib.ListN.{length}
 use Rattle.numbers.proofs.Filled.{fill_none, fill_step, fill_all}
