@@ -39,7 +39,7 @@ balance_cells-requires c =
     let t = k.is_taken in
     let net = c.net.ensures in
     let b = c.minus-day_balance.ensures ∙ difference_is _ z t a.entering net.0 net.1 k.sum in
-    let small = balance_small _ z t a.entering a.decreases a.users in
+    let small = balance_small _ z t a.entering a.measured a.users in
     let f = facts _ z t in
     let room : length c.args.state.wholes ≡ USERS = search rules in record { within = (rw (b, back small (omega arith)) small, cells_in_range _ z t, z.users, none_long c.requires.1); n_nonzero = (omega (arith, a.users), f.few, f.apart, omega (arith, f.few, room)) }
 
@@ -50,9 +50,9 @@ whole_amounts-requires c =
     let z = k.sized in
     let t = k.is_taken in
     let net = c.net.ensures in
-    let bs = c.balance_cells.new.1.1.1.1.1.1.0 in
-    let long : length c.balance_cells.new.1.1.1.1.1.1.0 ≡ length c.args.cells.now = search rules in
-    let w = cells_left _ z t a.entering a.decreases a.users net.0 net.1 k.sum c.minus-day_balance.ensures c.requires.1 c.balance_cells.ensures.cells_after in
+    let bs = c.balance_cells.new.cells in
+    let long : length c.balance_cells.new.cells ≡ length c.args.cells.now = search rules in
+    let w = cells_left _ z t a.entering a.measured a.users net.0 net.1 k.sum c.minus-day_balance.ensures c.requires.1 c.balance_cells.ensures.cells_after in
     let l = taken_summable _ z t in
     let enough = filled_long (shares_of _ c.args.consumption.now c.args.losses.now c.args.state.users c.args.state.count) _ (shares_long _ c.args.consumption.now c.args.losses.now c.args.state.users c.args.state.count) c.balance_cells.ensures.shares_after in (
       l.few,
@@ -67,13 +67,13 @@ whole_amounts-requires c =
 pub slice_bounds-shares-end : goal.slice_bounds-shares-end
 slice_bounds-shares-end c =
     let a = c.args in
-    let f = whole_at a.consumption.now a.losses.now c.balance_cells.new.1.1.1.1.1.1.0 a.revision.now in
+    let f = whole_at a.consumption.now a.losses.now c.balance_cells.new.cells a.revision.now in
     filled_long (table f a.state.count) _ (length_table f a.state.count) c.whole_amounts.ensures
 
 pub slice_bounds-wholes_too_large-end : goal.slice_bounds-wholes_too_large-end
 slice_bounds-wholes_too_large-end c =
     let a = c.args in
-    let f = whole_at a.consumption.now a.losses.now c.balance_cells.new.1.1.1.1.1.1.0 a.revision.now in
+    let f = whole_at a.consumption.now a.losses.now c.balance_cells.new.cells a.revision.now in
     sym (ap length (first_wholes f a.state.count _ c.whole_amounts.ensures) ∙ length_table f a.state.count)
 
 pub returns : goal.returns
@@ -83,9 +83,9 @@ returns c d h =
     let z = k.sized in
     let t = k.is_taken in
     let net = c.net.ensures in
-    let bs = c.balance_cells.new.1.1.1.1.1.1.0 in
-    let long : length c.balance_cells.new.1.1.1.1.1.1.0 ≡ length c.args.cells.now = search rules in
-    let w = cells_left _ z t a.entering a.decreases a.users net.0 net.1 k.sum c.minus-day_balance.ensures c.requires.1 c.balance_cells.ensures.cells_after in
-    let f = whole_at c.args.consumption.now c.args.losses.now c.balance_cells.new.1.1.1.1.1.1.0 c.args.revision.now in
+    let bs = c.balance_cells.new.cells in
+    let long : length c.balance_cells.new.cells ≡ length c.args.cells.now = search rules in
+    let w = cells_left _ z t a.entering a.measured a.users net.0 net.1 k.sum c.minus-day_balance.ensures c.requires.1 c.balance_cells.ensures.cells_after in
+    let f = whole_at c.args.consumption.now c.args.losses.now c.balance_cells.new.cells c.args.revision.now in
     let large = large_after _ z t a.entering (users_are _ z t a.users) bs w (long ∙ none_long c.requires.1) _ (first_wholes f c.args.state.count _ c.whole_amounts.ensures) in
     subst⁻¹ (λ x. Balanced bs x c.wholes_too_large.result) (is_of_parts h.has) (record { cells = w; large = c.wholes_too_large.ensures ∙ large })

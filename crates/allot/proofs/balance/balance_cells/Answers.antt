@@ -44,4 +44,8 @@ returns c =
     let ls = a.losses.now in
     let us = a.users.now in
     let long : length (take a.n a.shares.now) ≡ a.n = length-take-le a.n a.shares.now c.requires.n_nonzero.3 in
-    let e = rw (back c.requires.within.0 (omega arith), long) at (c.spread_balance.ensures.shares_after, c.spread_balance.ensures.cells_after) in record { shares_after = ap (λ t. t ++ drop a.n a.shares.now) e.0; cells_after = e.1 }
+    let k = back c.requires.within.0 (omega arith) in
+    record {
+      shares_after = ap (λ t. t ++ drop a.n a.shares.now) (rw (k, long) at c.spread_balance.ensures.shares_after);
+      cells_after = rw (k, long) at c.spread_balance.ensures.cells_after;
+    }

@@ -38,10 +38,10 @@ spread-requires c =
     let i = at-loop.s in
     let h = c.requires.ws_value.1 i in
     let k : 5 * i + 5 - 5 * i ≡ 5 = omega arith in
-    let w = (c.kind_weights.ensures.value, c.kind_weights.ensures.bounded) in (
+    let w = c.kind_weights.ensures in (
       rw (back h (omega arith)) h,
-      w.1,
-      ap (λ t. at t i) c.requires.ws_value.0 ∙ at_table (weight_at a.all a.consumption.now a.losses.now) (length a.shares.now) i (omega arith) ∙ sym (ap total w.0),
+      w.bounded,
+      ap (λ t. at t i) c.requires.ws_value.0 ∙ at_table (weight_at a.all a.consumption.now a.losses.now) (length a.shares.now) i (omega arith) ∙ sym (ap total w.value),
       length-take-le _ _ (omega (arith, length-drop (5 * i) at-loop.cells, at-loop.invariant.1.long, c.requires.shares_len_bound.1, c.requires.shares_len_bound.0)) ∙ k,
     )
 

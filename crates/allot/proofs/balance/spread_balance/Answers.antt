@@ -22,12 +22,12 @@ spread_all-requires c =
     let n = length a.shares.now in
     let p = c.requires.within in
     let q = c.requires.shares_nonzero in
-    let o = (c.share_by-all.ensures.value, (c.share_by-all.ensures.ws_after, c.share_by-all.ensures.shares_after)) in
-    let e = shares_fill a.balance cs ls us n (back p.0 (omega arith)) q.4 a.shares.now (omega arith) o.1.1 in
+    let o = c.share_by-all.ensures in
+    let e = shares_fill a.balance cs ls us n (back p.0 (omega arith)) q.4 a.shares.now (omega arith) o.shares_after in
     let long = ap length e ∙ shares_long a.balance cs ls us n in record {
       shares_len_bound = (omega (arith, long, q.1), p.3, p.1);
       ws_value = (
-        o.1.0 ∙ ap₂ (λ b k. weights b cs ls k) (sym o.0) (q.4 ∙ sym long),
+        o.ws_after ∙ ap₂ (λ b k. weights b cs ls k) (sym o.value) (q.4 ∙ sym long),
         λ i. rw e (shares_within a.balance cs ls us n p.0 q.2 (omega (arith, p.2, q.1)) i),
       );
     }
@@ -40,5 +40,5 @@ returns c =
     let us = a.users.now in
     let n = length a.shares.now in
     let q = c.requires.shares_nonzero in
-    let o = (c.share_by-all.ensures.value, (c.share_by-all.ensures.ws_after, c.share_by-all.ensures.shares_after)) in
-    let e = shares_fill a.balance cs ls us n (back c.requires.within.0 (omega arith)) q.4 a.shares.now (omega arith) o.1.1 in record { shares_after = e; cells_after = spread_is a.balance cs ls us n a.cells.now (o.0 ∙ ap (by_all_kinds cs ls) q.4) e c.spread_all.ensures }
+    let o = c.share_by-all.ensures in
+    let e = shares_fill a.balance cs ls us n (back c.requires.within.0 (omega arith)) q.4 a.shares.now (omega arith) o.shares_after in record { shares_after = e; cells_after = spread_is a.balance cs ls us n a.cells.now (o.value ∙ ap (by_all_kinds cs ls) q.4) e c.spread_all.ensures }

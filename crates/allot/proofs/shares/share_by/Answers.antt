@@ -17,13 +17,13 @@ prorate_signed-requires c =
     let ls = c.args.losses.now in
     let us = c.args.users.now in
     let n = length c.args.ws.now in
-    let g = (c.weigh-basis.ensures.value, c.weigh-basis.ensures.ws_after) in
-    let w = weights_right cs ls c.requires.within.1 (by_all_kinds cs ls n) n c.requires.ws_nonzero.1 g.1 in
+    let g = c.weigh-basis.ensures in
+    let w = weights_right cs ls c.requires.within.1 (by_all_kinds cs ls n) n c.requires.ws_nonzero.1 g.ws_after in
     let k = c.keys_of.ensures in
     let l : length (take (length c.args.keys.now) us) ≡ length c.args.keys.now = length-take-le (length c.args.keys.now) us (omega (arith, c.requires.within.2, c.requires.ws_nonzero.1, c.requires.ws_nonzero.2)) in record {
       within = (
         rw (back c.requires.within.0 (omega arith)) c.requires.within.0,
-        ap (λ (b : Basis). b.total) g.0 ∙ sym (ap total g.1),
+        ap (λ (b : Basis). b.total) g.value ∙ sym (ap total g.ws_after),
         omega (arith, w.0, c.requires.ws_nonzero.0),
         w.1,
         w.2,
@@ -36,5 +36,5 @@ returns c =
     let cs = c.args.consumption.now in
     let ls = c.args.losses.now in
     let us = c.args.users.now in
-    let g = (c.weigh-basis.ensures.value, c.weigh-basis.ensures.ws_after) in
-    let k = c.keys_of.ensures ∙ ap (λ m. take m us) c.requires.ws_nonzero.2 in record { value = ap (λ (b : Basis). b.all) g.0; ws_after = g.1; shares_after = shares_are c.args.balance cs ls us (length c.args.ws.now) g.1 k c.args.shares.now (rw (back c.requires.within.0 (omega arith)) at c.prorate_signed.ensures) }
+    let g = c.weigh-basis.ensures in
+    let k = c.keys_of.ensures ∙ ap (λ m. take m us) c.requires.ws_nonzero.2 in record { value = ap (λ (b : Basis). b.all) g.value; ws_after = g.ws_after; shares_after = shares_are c.args.balance cs ls us (length c.args.ws.now) g.ws_after k c.args.shares.now (rw (back c.requires.within.0 (omega arith)) at c.prorate_signed.ensures) }

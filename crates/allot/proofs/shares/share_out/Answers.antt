@@ -26,4 +26,4 @@ returns c =
     let cs = c.args.consumption.now in
     let ls = c.args.losses.now in
     let w = take_long USERS c.args.n 0 c.column-ws.ensures c.requires.n_nonzero.1 in
-    let e = (c.share_by.ensures.value, (c.share_by.ensures.ws_after, c.share_by.ensures.shares_after)) in record { value = e.0 ∙ ap (by_all_kinds cs ls) (sym w); shares_after = rw (back c.requires.within.0 (omega arith)) at e.1.1 ∙ ap (λ n. shares_of c.args.balance cs ls c.args.users.now n ++ drop n c.args.shares.now) (sym w) }
+    let e = c.share_by.ensures in record { value = e.value ∙ ap (by_all_kinds cs ls) (sym w); shares_after = rw (back c.requires.within.0 (omega arith)) at e.shares_after ∙ ap (λ n. shares_of c.args.balance cs ls c.args.users.now n ++ drop n c.args.shares.now) (sym w) }

@@ -18,20 +18,23 @@ prorate_signed-requires c =
 
 pub prorate_signed-requires-else-total-eq0 : goal.prorate_signed-requires-else-total-eq0
 prorate_signed-requires-else-total-eq0 c =
-    let l : length c.args.t2 ≡ 5 = search rules in
-    ((rw (back c.requires.0 (omega arith)) c.requires.0, c.requires.2, omega arith, omega arith, c.requires.1), (omega arith, omega (arith, c.requires.3)))
+    let l : length c.args.ws ≡ 5 = search rules in
+    record {
+      within = (rw (back c.requires.0 (omega arith)) c.requires.0, c.requires.2, omega arith, omega arith, c.requires.1);
+      ws_in_bounds = (omega arith, omega (arith, c.requires.3));
+    }
 
 pub returns-then-total-eq0 : goal.returns-then-total-eq0
 returns-then-total-eq0 c =
     c.prorate_signed.ensures
     ∙ ap₂ (λ z t. prorateZ z (1 ∷ 0 ∷ 0 ∷ 0 ∷ 0 ∷ []) kinds ++ t) (back c.requires.0 (omega arith)) (drop_of_length-le c.args.cells.now {i = 5} (omega (arith, c.requires.3)))
     ∙ append-nil _
-    ∙ ap (λ ws. prorateZ c.args.share ws kinds) (none_weigh c.args.t2 (sym c.requires.2 ∙ c.if-total-eq0.true))
+    ∙ ap (λ ws. prorateZ c.args.share ws kinds) (none_weigh c.args.ws (sym c.requires.2 ∙ c.if-total-eq0.true))
 
 pub returns-else-total-eq0 : goal.returns-else-total-eq0
 returns-else-total-eq0 c =
-    let l : length c.args.t2 ≡ 5 = search rules in
+    let l : length c.args.ws ≡ 5 = search rules in
     c.prorate_signed-else-total-eq0.ensures
-    ∙ ap₂ (λ z t. prorateZ z c.args.t2 kinds ++ t) (back c.requires.0 (omega arith)) (drop_of_length-le c.args.cells.now {i = length c.args.t2} (omega (arith, c.requires.3)))
+    ∙ ap₂ (λ z t. prorateZ z c.args.ws kinds ++ t) (back c.requires.0 (omega arith)) (drop_of_length-le c.args.cells.now {i = length c.args.ws} (omega (arith, c.requires.3)))
     ∙ append-nil _
-    ∙ ap (λ ws. prorateZ c.args.share ws kinds) (some_weigh c.args.t2 (λ e. c.if-total-eq0.false (c.requires.2 ∙ e)))
+    ∙ ap (λ ws. prorateZ c.args.share ws kinds) (some_weigh c.args.ws (λ e. c.if-total-eq0.false (c.requires.2 ∙ e)))

@@ -8,4 +8,4 @@ returns c =
     let b = c.cell-b in
     let d = c.cell-c in
     let e = c.cell-d in
-    let f = c.cell-e in record { value = weights_are c.args.consumption.now c.args.losses.now c.args.slot c.requires.1.consumption.long c.requires.1.losses.long c.requires.0 c.args.all c.cell_if-a.ensures.value b.ensures.0 d.ensures.0 e.ensures.0 f.ensures.0; bounded = bounded_five LARGEST_WEIGHT _ _ _ _ _ c.cell_if-a.ensures.upper_bound b.ensures.1 d.ensures.1 e.ensures.1 f.ensures.1 }
+    let f = c.cell-e in record { value = weights_are c.args.consumption.now c.args.losses.now c.args.slot c.requires.1.consumption.long c.requires.1.losses.long c.requires.0 c.args.all c.cell_if-a.ensures.value b.ensures.value d.ensures.value e.ensures.value f.ensures.value; bounded = bounded_five LARGEST_WEIGHT _ _ _ _ _ c.cell_if-a.ensures.upper_bound b.ensures.upper_bound d.ensures.upper_bound e.ensures.upper_bound f.ensures.upper_bound }
