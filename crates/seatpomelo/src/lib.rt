@@ -1,4 +1,4 @@
-// The calls for programs in other languages, on numbers and lists that the caller lends.
+// The calls for programs in other languages, on numbers and lists that the caller lends; `seatpomelo_c` exports them.
 #![tactic(auto)]
 
 ghost use Rattle.std.specs.Prelude.{◌≡◌, [], ◌∷◌, length, pos};
@@ -78,24 +78,21 @@ fn type_number(day_type: DayType) -> u64
 // ---- The point-day, in plain numbers that the caller lends, in place
 
 // A fresh point-day.
-#[unsafe(no_mangle)]
-pub extern "C" fn seatpomelo_fresh(day: &mut [i64]) -> u8
+pub fn seatpomelo_fresh(day: &mut [i64]) -> u8
     ensures { plain result [] day.new ≡ plain_fresh day.old }
 {
     in_place::fresh(day)
 }
 
 // Join.
-#[unsafe(no_mangle)]
-pub extern "C" fn seatpomelo_join(day: &mut [i64], user: u16) -> u8
+pub fn seatpomelo_join(day: &mut [i64], user: u16) -> u8
     ensures { plain result [] day.new ≡ plain_call (called (join user)) [] day.old }
 {
     in_place::join(day, user)
 }
 
 // Line; gives the losses added.
-#[unsafe(no_mangle)]
-pub extern "C" fn seatpomelo_line(
+pub fn seatpomelo_line(
     day: &mut [i64],
     user: u16,
     kind: u8,
@@ -109,8 +106,7 @@ pub extern "C" fn seatpomelo_line(
 }
 
 // Many lines: line after line until one is refused; gives how many were accepted, and the losses that they added, in every case.
-#[unsafe(no_mangle)]
-pub extern "C" fn seatpomelo_lines<'a>(
+pub fn seatpomelo_lines<'a>(
     day: &mut [i64],
     users: &'a [u16],
     kinds: &'a [u8],
@@ -133,24 +129,21 @@ pub extern "C" fn seatpomelo_lines<'a>(
 }
 
 // Measure.
-#[unsafe(no_mangle)]
-pub extern "C" fn seatpomelo_measure(day: &mut [i64], emission: u64, downstream: u64) -> u8
+pub fn seatpomelo_measure(day: &mut [i64], emission: u64, downstream: u64) -> u8
     ensures { plain result [] day.new ≡ plain_call (called (measure emission downstream)) [] day.old }
 {
     in_place::measure(day, emission, downstream)
 }
 
 // Allot.
-#[unsafe(no_mangle)]
-pub extern "C" fn seatpomelo_allot(day: &mut [i64]) -> u8
+pub fn seatpomelo_allot(day: &mut [i64]) -> u8
     ensures { plain result [] day.new ≡ plain_call (called allot) [] day.old }
 {
     in_place::allot(day)
 }
 
 // Stand-in, with its rows in three lists; gives the rows looked at.
-#[unsafe(no_mangle)]
-pub extern "C" fn seatpomelo_stand_in<'a>(
+pub fn seatpomelo_stand_in<'a>(
     day: &mut [i64],
     counts: &'a [usize],
     users: &'a [u16],
@@ -163,24 +156,21 @@ pub extern "C" fn seatpomelo_stand_in<'a>(
 }
 
 // Revise; gives 1 if R is within the tolerance, 0 if it is assigned, and R.
-#[unsafe(no_mangle)]
-pub extern "C" fn seatpomelo_revise(day: &mut [i64], within: &mut u64, amount: &mut i64) -> u8
+pub fn seatpomelo_revise(day: &mut [i64], within: &mut u64, amount: &mut i64) -> u8
     ensures { plain result (pos within.new ∷ amount.new ∷ []) day.new ≡ plain_call (called (revise TOLERANCE)) (pos within.old ∷ amount.old ∷ []) day.old }
 {
     in_place::revise(day, within, amount)
 }
 
 // Start-final.
-#[unsafe(no_mangle)]
-pub extern "C" fn seatpomelo_start_final(day: &mut [i64]) -> u8
+pub fn seatpomelo_start_final(day: &mut [i64]) -> u8
     ensures { plain result [] day.new ≡ plain_call (called start_final) [] day.old }
 {
     in_place::start_final(day)
 }
 
 // Inventory; gives the count of rows.
-#[unsafe(no_mangle)]
-pub extern "C" fn seatpomelo_inventory<'a>(day: &'a [i64], out: &mut [i64], rows: &mut u64) -> u8
+pub fn seatpomelo_inventory<'a>(day: &'a [i64], out: &mut [i64], rows: &mut u64) -> u8
     ensures value { result ≡ status (plain_inventory day.now out.old) }
     ensures rows_after { rows.new ≡ row_count (plain_inventory day.now out.old) rows.old }
     ensures afterwards { Afterwards (plain_inventory day.now out.old) (read (day_in day.now)) out.old out.new }
@@ -191,8 +181,7 @@ pub extern "C" fn seatpomelo_inventory<'a>(day: &'a [i64], out: &mut [i64], rows
 // ---- Calendar
 
 // The type of a gas day.
-#[unsafe(no_mangle)]
-pub extern "C" fn seatpomelo_day_type(day: u32, holidays: &[u32], day_type: &mut u64) -> u8
+pub fn seatpomelo_day_type(day: u32, holidays: &[u32], day_type: &mut u64) -> u8
     ensures { settled result (day_type.new ∷ []) ≡ settles type_number (type_call day holidays.now) (day_type.old ∷ []) }
 {
     let answer = calendar::day_type(day, holidays);
@@ -203,8 +192,7 @@ pub extern "C" fn seatpomelo_day_type(day: u32, holidays: &[u32], day_type: &mut
 }
 
 // The month of a gas day: its first day, its days, the mask of its working days and how many they are.
-#[unsafe(no_mangle)]
-pub extern "C" fn seatpomelo_month(
+pub fn seatpomelo_month(
     day: u32,
     holidays: &[u32],
     first: &mut u64,
@@ -232,8 +220,7 @@ pub extern "C" fn seatpomelo_month(
 // ---- Consumption of a supply point
 
 // Telemetered: consumption, and the entries looked at.
-#[unsafe(no_mangle)]
-pub extern "C" fn seatpomelo_telemetered(
+pub fn seatpomelo_telemetered(
     day: u32,
     holidays: &[u32],
     reading: &[u64],
@@ -273,8 +260,7 @@ pub extern "C" fn seatpomelo_telemetered(
 }
 
 // Type 1, toll 3.4.
-#[unsafe(no_mangle)]
-pub extern "C" fn seatpomelo_type_1_toll_34(
+pub fn seatpomelo_type_1_toll_34(
     day: u32,
     last_year: &[u64],
     g: u32,
@@ -297,8 +283,7 @@ pub extern "C" fn seatpomelo_type_1_toll_34(
 }
 
 // Type 1, another toll.
-#[unsafe(no_mangle)]
-pub extern "C" fn seatpomelo_type_1_other_toll(
+pub fn seatpomelo_type_1_other_toll(
     day: u32,
     holidays: &[u32],
     last_year: &[u64],
@@ -325,8 +310,7 @@ pub extern "C" fn seatpomelo_type_1_other_toll(
 }
 
 // Type 2, with the degree days of one winter or of two.
-#[unsafe(no_mangle)]
-pub extern "C" fn seatpomelo_type_2(
+pub fn seatpomelo_type_2(
     consumers: u32,
     profile: u64,
     g: u32,
@@ -342,8 +326,7 @@ pub extern "C" fn seatpomelo_type_2(
 }
 
 // A profile, in Wh.
-#[unsafe(no_mangle)]
-pub extern "C" fn seatpomelo_profile(
+pub fn seatpomelo_profile(
     f1: u64,
     f2: u64,
     nc1: u32,
@@ -361,8 +344,7 @@ pub extern "C" fn seatpomelo_profile(
 // ---- Temperature
 
 // Degree days, in fortieths of a degree.
-#[unsafe(no_mangle)]
-pub extern "C" fn seatpomelo_degree_days(tmin: i32, tmax: i32, fortieths: &mut u64) -> u8
+pub fn seatpomelo_degree_days(tmin: i32, tmax: i32, fortieths: &mut u64) -> u8
     ensures { settled result (fortieths.new ∷ []) ≡ settles size (degree_days_call tmin tmax) (fortieths.old ∷ []) }
 {
     let answer = degree_days::degree_days(tmin, tmax);
@@ -373,8 +355,7 @@ pub extern "C" fn seatpomelo_degree_days(tmin: i32, tmax: i32, fortieths: &mut u
 }
 
 // The zone of a degree-day value, in hundredths.
-#[unsafe(no_mangle)]
-pub extern "C" fn seatpomelo_zone(hundredths: u32, zone: &mut u64) -> u8
+pub fn seatpomelo_zone(hundredths: u32, zone: &mut u64) -> u8
     ensures { settled result (zone.new ∷ []) ≡ settles number (zone_call hundredths) (zone.old ∷ []) }
 {
     let answer = zones::zone_of(hundredths);
@@ -382,8 +363,7 @@ pub extern "C" fn seatpomelo_zone(hundredths: u32, zone: &mut u64) -> u8
 }
 
 // A province's value, in hundredths, and its zone.
-#[unsafe(no_mangle)]
-pub extern "C" fn seatpomelo_province(number: u32, value: &mut u64, zone: &mut u64) -> u8
+pub fn seatpomelo_province(number: u32, value: &mut u64, zone: &mut u64) -> u8
     ensures { settled result (value.new ∷ zone.new ∷ []) ≡ settles province_numbers (province_call number) (value.old ∷ zone.old ∷ []) }
 {
     let answer = zones::province_of(number);
@@ -398,13 +378,7 @@ pub extern "C" fn seatpomelo_province(number: u32, value: &mut u64, zone: &mut u
 // ---- Proration, and spreading a reading
 
 // An amount of either sign prorated over weights; equal remainders go to the lower key.
-#[unsafe(no_mangle)]
-pub extern "C" fn seatpomelo_split(
-    amount: i64,
-    weights: &[u64],
-    keys: &[u64],
-    out: &mut [i64],
-) -> u8
+pub fn seatpomelo_split(amount: i64, weights: &[u64], keys: &[u64], out: &mut [i64]) -> u8
     ensures value { result ≡ answer amount weights.now keys.now out.old }
     ensures out_after { out.new ≡ after amount weights.now keys.now out.old }
 {
@@ -412,8 +386,7 @@ pub extern "C" fn seatpomelo_split(
 }
 
 // A reading spread over the days of its period.
-#[unsafe(no_mangle)]
-pub extern "C" fn seatpomelo_spread(reading: u64, weights: &[i64], out: &mut [i64]) -> u8
+pub fn seatpomelo_spread(reading: u64, weights: &[i64], out: &mut [i64]) -> u8
     ensures value { result ≡ number_of (spread reading weights.now out.old).verdict }
     ensures out_after { out.new ≡ (spread reading weights.now out.old).buffer }
 {
@@ -437,8 +410,7 @@ fn bytes_of(answer: ReportAnswer) -> NumberAnswer
 }
 
 // The report on a day file: its text at the start of `out`, which must have room for the longest, and how many bytes it has.
-#[unsafe(no_mangle)]
-pub extern "C" fn seatpomelo_day_report(file: &[u8], out: &mut [u8], written: &mut u64) -> u8
+pub fn seatpomelo_day_report(file: &[u8], out: &mut [u8], written: &mut u64) -> u8
     ensures written_after { settled result (written.new ∷ []) ≡ settles number (size_of (report_call file.now (length out.old))) (written.old ∷ []) }
     ensures out_after { out.new ≡ buffer_after (report_call file.now (length out.old)) out.old }
 {

@@ -3,6 +3,7 @@ use mir.Facts.{to_z-of_z}
 use Rattle.seatpomelo.proofs.seatpomelo_split.Goals as goal
 
 pub returns : goal.returns
-returns c =
-    let both = rw (to_z-of_z c.ranges.amount) at (c.split.ensures.value, c.split.ensures.out_after) in
-    record { value = both.0; out_after = both.1 }
+returns c = record {
+  value = rw (to_z-of_z c.ranges.amount) at c.split.ensures.value;
+  out_after = rw (to_z-of_z c.ranges.amount) at c.split.ensures.out_after;
+}
