@@ -1,6 +1,6 @@
 /* A day from its lines to its inventory and its revision, in C. From the repository's root:
 
-       rt staticlib seatpomelo
+       tools/build archive
        cc -std=c99 -Iinclude examples/day.c target/staticlib/libseatpomelo.a -o day && ./day
 
    It prints examples/day.out. rust/examples/day.rs is the same program in Rust. */

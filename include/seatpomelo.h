@@ -1,4 +1,4 @@
-/* Seatpomelo: daily gas allocation by PD-02, for C and C++ on x86-64. `rt staticlib seatpomelo` proves the calls and writes
+/* Seatpomelo: daily gas allocation by PD-02, for C and C++ on x86-64. `tools/build archive` proves the calls and writes
    target/staticlib/libseatpomelo.a; link that and nothing else. examples/day.c is a first program; docs/refusals.md says what to do about a
    refusal, docs/CONTRACTS.md what each call promises.
 

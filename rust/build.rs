@@ -1,4 +1,4 @@
-//! Links `libseatpomelo.a`, which `rt staticlib seatpomelo` writes to target/staticlib; SEATPOMELO_LIB names another folder.
+//! Links `libseatpomelo.a`, which `tools/build archive` writes to target/staticlib; SEATPOMELO_LIB names another folder.
 
 use std::env;
 use std::path::PathBuf;
@@ -13,7 +13,7 @@ fn main() {
     let archive = folder.join("libseatpomelo.a");
     println!("cargo:rerun-if-changed={}", archive.display());
     if !archive.is_file() {
-        panic!("there is no {}: run `rt staticlib seatpomelo` in the repository, or set SEATPOMELO_LIB", archive.display());
+        panic!("there is no {}: run `tools/build archive` in the repository, or set SEATPOMELO_LIB", archive.display());
     }
     println!("cargo:rustc-link-search=native={}", folder.display());
     println!("cargo:rustc-link-lib=static=seatpomelo");

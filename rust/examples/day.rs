@@ -1,6 +1,6 @@
 //! A day from its lines to its inventory and its revision, in Rust. From the repository's root:
 //!
-//!     rt staticlib seatpomelo
+//!     tools/build archive
 //!     cargo run --offline --manifest-path rust/Cargo.toml --example day
 //!
 //! It prints examples/day.out. examples/day.c is the same program in C.
