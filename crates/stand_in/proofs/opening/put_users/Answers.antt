@@ -1,7 +1,6 @@
 -- `stand_in::opening::put_users` meets its contract. Assumes nothing.
 use mathlib.Core.Path.{refl, ap, ◌∙◌}
 use mathlib.Core.List.{◌++◌}
-use Prim.Native.Nat.{◌-◌}
 use native.Mathlib.Omega.{arith}
 use lib.ListN.{length, drop}
 use Rattle.numbers.proofs.Filled.{fill_none, fill_step, fill_end}

@@ -1,11 +1,8 @@
 -- `stand_in::rows::each_row_right` meets its contract: the rows passed so far are right. Assumes nothing.
 use mathlib.Core.Path.{sym, ◌∙◌}
-use mathlib.Core.Bool.{true}
-use Prim.Native.Nat.{◌-◌}
 use native.Mathlib.Omega.{arith}
 use borrow.Author.Count.{below_more}
 use borrow.Author.Tests.{not-true, not-false}
-use Rattle.point_day.specs.Calls.{row_right}
 use Rattle.stand_in.specs.Rows.{rows}
 use Rattle.stand_in.proofs.rows.Rows.{row_is_right, row_too_long, all_right, one_wrong}
 use Rattle.stand_in.proofs.rows.each_row_right.Goals as goal

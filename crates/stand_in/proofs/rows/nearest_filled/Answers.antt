@@ -1,5 +1,4 @@
 -- `stand_in::rows::nearest_filled` meets its contract: no row passed so far has a pair. Assumes nothing.
-use Prim.Native.Nat.{◌-◌}
 use native.Mathlib.Omega.{arith}
 use borrow.Author.Count.{below_more}
 use Rattle.stand_in.proofs.rows.nearest_filled.Goals as goal

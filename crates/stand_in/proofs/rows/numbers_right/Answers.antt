@@ -1,5 +1,4 @@
 -- `stand_in::rows::numbers_right` meets its contract. Assumes nothing.
-use Prim.Native.Nat.{◌-◌}
 use native.Mathlib.Omega.{arith}
 use Rattle.stand_in.proofs.rows.Rising.{risen_none, risen_more, risen_all, risen_stop}
 use Rattle.stand_in.proofs.rows.numbers_right.Goals as goal
