@@ -1,7 +1,6 @@
 -- As many users after allot, stand-in and revise as the day, or the row, had. Assumes nothing.
 use mathlib.Core.Path.{◌≡◌, ◌∙◌}
 use mathlib.Core.List.{List, map}
-use Prim.Native.Nat.{◌-◌}
 use lib.IntN.{ℤ, nat_abs}
 use lib.ListN.{length, length-map}
 use Rattle.numbers.proofs.Lists.{zip_length}

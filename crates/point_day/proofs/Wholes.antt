@@ -9,7 +9,7 @@ use lib.Dec.{ltb, eqb}
 use lib.IntN.{ℤ, pos, negsuc, neg_ℤ, nat_abs, ◌+ℤ◌, ◌-ℤ◌, +ℤ_idl, +ℤ_idr, +ℤ_assoc}
 use lib.ListN.{length, get_or, length-map, length-drop}
 use borrow.Author.Tests.{le-leb, ltb-true, ltb-false, le-ltb, not-true, not-false}
-use Rattle.numbers.specs.Sums.{pick, at, atZ, total, totalZ}
+use Rattle.numbers.specs.Sums.{pick, atZ, total, totalZ}
 use Rattle.numbers.specs.Lists.{every, has, distinct}
 use Rattle.numbers.specs.Amounts.{is_negative, Between}
 use Rattle.numbers.proofs.Sums.{cases}

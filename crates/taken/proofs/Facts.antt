@@ -12,7 +12,7 @@ use lib.Seq.{get_or-take, get_or-drop, take_at}
 use mir.Syntax.{w64}
 use mir.Val.{of_z, to_z}
 use borrow.Author.Tests.{le-leb, leb-true, eqb-true, not-true, not-false}
-use Rattle.numbers.specs.Sums.{sumZ, table, at, atZ, total}
+use Rattle.numbers.specs.Sums.{sumZ, table, atZ, total}
 use Rattle.numbers.specs.Lists.{every, has, distinct}
 use Rattle.numbers.specs.Amounts.{Within, Between, Decides, is_negative}
 use Rattle.numbers.proofs.Amounts.{back, pos_size}

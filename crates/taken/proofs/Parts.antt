@@ -5,7 +5,6 @@ use mathlib.Core.List.{List, [], ◌∷◌, ◌++◌}
 use mathlib.Core.Logic.{⊎_elim}
 use Prim.Native.Nat.{ℕ, zero, suc, ◌+◌, ◌*◌, ◌/◌, ◌%◌, ◌≤◌, ◌<◌}
 use native.Mathlib.Omega.{arith}
-use native.Mathlib.Nat.{mul-le-mul_right}
 use lib.Dec.{eqb, leb}
 use lib.IntN.{ℤ, pos, negsuc, nat_abs, ◌+ℤ◌, +ℤ_idr}
 use lib.ListN.{length, get_or, drop, length-append, length-drop, get_or-append}
@@ -20,7 +19,7 @@ use Rattle.numbers.specs.Amounts.{Within, Between, is_negative}
 use Rattle.numbers.proofs.Places.{at_every, from_every}
 use Rattle.numbers.proofs.Sums.{lt_or_ge, length_table, getD_table, sumZ_eq}
 use Rattle.numbers.proofs.Lists.{All, true≢false, both_fst, both_snd, both_true, all_every, every_all, all_map}
-use Rattle.numbers.proofs.Amounts.{back, widen, within_add, within_first}
+use Rattle.numbers.proofs.Amounts.{back, widen, within_add}
 use Rattle.point_day.specs.Limits.{USERS, CELLS, KINDS, LIMIT, AMOUNT}
 use Rattle.point_day.specs.Day.{User, offtake, all_offtake, whole, no_more, is_zero}
 use Rattle.point_day.specs.Struct.{Sized, kinds_of, user_at, read, none_past, none_below, unallotted, amounts_right, sum_right, taken}
@@ -30,7 +29,7 @@ use Rattle.point_day.proofs.Taken.{taken_facts, facts_taken}
 use Rattle.point_day.proofs.Sound.{Bare, bare_whole, bare_all}
 use Rattle.state.specs.Places.{From, ROOM, LOW, LowSlot, SizedSlot, cellZ, offtake_at, balance_at, whole_at}
 use Rattle.state.proofs.Cells.{zero_between, between_zero, between_sign, low_size, nonneg_between, between_size, at_most}
-use Rattle.state.proofs.Lows.{offtake_within, user_balance_within}
+use Rattle.state.proofs.Lows.{user_balance_within}
 use Rattle.state.proofs.Totals.{kinds_long, whole_is, wholes_are, whole_parts, offtakes_are}
 use Rattle.taken.specs.declared.Tally.{Tally}
 use Rattle.taken.specs.Tested.{TestedParts, Found, Head, Offtakes, Wholes, Balances, Entering, Allotted, added_at}

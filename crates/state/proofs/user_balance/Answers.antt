@@ -1,6 +1,6 @@
 -- `state::user_balance` meets its contract: the sum of the kinds passed so far. Assumes nothing.
 use mathlib.Core.Path.{◌≡◌, refl}
-use Prim.Native.Nat.{◌+◌, ◌-◌, ◌*◌}
+use Prim.Native.Nat.{◌+◌, ◌*◌}
 use native.Mathlib.Omega.{arith}
 use Rattle.numbers.specs.Sums.{sumZ, atZ}
 use Rattle.numbers.proofs.Amounts.{back, sfits, within_add, next_turn_kept, next_turn_fits}

@@ -1,6 +1,6 @@
 use mathlib.Core.Path.{◌≡◌}
 use Prim.Native.Nat.{◌+◌, ◌-◌, ◌*◌, ◌≤◌}
-use Rattle.numbers.specs.Sums.{sum, sumZ}
+use Rattle.numbers.specs.Sums.{sumZ}
 use Rattle.state.specs.Places.{cellZ}
 use Rattle.state.proofs.whole_amount.Given as goal
 

@@ -1,6 +1,5 @@
 -- `state::whole_amounts` meets its contract: a buffer that is filled slot by slot. Assumes nothing.
 use mathlib.Core.Path.{ap, ◌∙◌}
-use Prim.Native.Nat.{◌-◌}
 use native.Mathlib.Omega.{arith}
 use mir.Syntax.{w64}
 use mir.Val.{of_z, to_z}

@@ -1,11 +1,9 @@
 -- `taken::add_balances` meets its contract: a column that is filled user by user, and the sum so far. Assumes nothing.
-use mathlib.Core.Path.{◌≡◌, refl, sym, ap, ◌∙◌}
-use Prim.Native.Nat.{ℕ, ◌-◌, ◌<◌}
+use mathlib.Core.Path.{◌≡◌, refl, sym, ◌∙◌}
+use Prim.Native.Nat.{ℕ, ◌<◌}
 use native.Mathlib.Omega.{arith}
 use borrow.Author.Tests.{leb-true, leb-false, not-true, not-false}
 use lib.IntN.{pos, nat_abs}
-use mir.Syntax.{w64}
-use mir.Val.{of_z}
 use Rattle.numbers.specs.Sums.{sumZ}
 use Rattle.numbers.specs.Amounts.{Within}
 use Rattle.numbers.proofs.Lists.{passed}

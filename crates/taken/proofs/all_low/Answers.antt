@@ -1,6 +1,5 @@
 -- `taken::all_low` decides: each user so far is low. Assumes nothing.
 use mathlib.Core.Path.{sym}
-use Prim.Native.Nat.{◌-◌}
 use native.Mathlib.Omega.{arith}
 use borrow.Author.Tests.{not-true, not-false}
 use Rattle.numbers.proofs.Lists.{passed, true≢false}

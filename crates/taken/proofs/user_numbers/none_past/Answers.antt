@@ -1,6 +1,6 @@
 -- `taken::user_numbers::none_past` meets its contract: the bits of every number passed so far are gathered. Assumes nothing.
 use mathlib.Core.Path.{◌≡◌}
-use Prim.Native.Nat.{◌-◌, ◌<◌}
+use Prim.Native.Nat.{◌<◌}
 use native.Mathlib.Omega.{arith}
 use lib.ListN.{length, get_or}
 use Rattle.numbers.proofs.Lists.{passed}

@@ -1,7 +1,6 @@
 -- `taken::user_numbers::numbers_right` meets its contract: the numbers passed so far are above 0 and distinct, and their buckets are marked. Assumes nothing.
 use mathlib.Core.Path.{◌≡◌, sym, ◌∙◌}
-use mathlib.Core.Bool.{false, not}
-use Prim.Native.Nat.{◌-◌}
+use mathlib.Core.Bool.{not}
 use native.Mathlib.Omega.{arith}
 use lib.ListN.{take}
 use Rattle.numbers.specs.Lists.{has}
