@@ -1,5 +1,5 @@
 -- `day_file::are_sections` meets its contract: what the sections passed and those ahead tell is the same. Assumes nothing.
-use Prim.Native.Nat.{◌-◌, ◌+◌, ◌*◌}
+use Prim.Native.Nat.{◌+◌, ◌*◌}
 use mathlib.Core.Path.{sym, ap, ap₂, ◌∙◌}
 use borrow.Author.Tests.{not-true, not-false}
 use Rattle.day_file.specs.declared.Section.{Section}

@@ -1,5 +1,4 @@
 -- `day_file::has_mark` meets its contract: what the bytes passed and those ahead tell is the same. Assumes nothing.
-use Prim.Native.Nat.{◌-◌}
 use mathlib.Core.Path.{sym, ◌∙◌}
 use Rattle.day_file.proofs.Mark.{mark_stands, differs, agrees, none_left}
 use native.Mathlib.Omega.{arith}

@@ -1,6 +1,5 @@
 -- `report::put_users` meets its contract. Assumes nothing.
 use mathlib.Core.Path.{◌≡◌, ap}
-use Prim.Native.Nat.{◌-◌}
 use Rattle.numbers.specs.Sums.{table}
 use Rattle.numbers.specs.Lists.{flat}
 use Rattle.report.specs.Lines.{slot_line}
