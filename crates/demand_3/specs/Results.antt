@@ -50,13 +50,13 @@ Revised d r = revised.Learnt tt (d, tt) r (d, tt)
 abbrev pub Restarted : PointDay → Outcome → Type 0
 Restarted d r = restarted.Learnt tt (d, tt) r (d, tt)
 
--- `line_lent` takes a reference to a struct, of whose contract the toolchain makes no reading: of the lent point-day before and after,
+-- `line_lent` takes a reference to a struct: of the lent point-day before and after,
 abbrev pub Lent : PointDay → ℕ → ℕ → ℕ → ℕ → code.Answer → PointDay → Type 0
 Lent before user kind c k r after = outcome (answer_of r) after ≡ called (calls.line user kind c k) before
 
 -- and that is its `ensures` in every model of the program logic, with the arguments a and, at exit, s
 lent_ensures : (w : World) (κs : Lfts 1) (a : ArgsD lent.signature κs) (r : code.Answer) (s : AtExit lent.ended κs)
-    → (lent.clauses w.𝓛 w.𝓜.mem w.𝓡.run κs a).ensures tt r s
+    → (lent.clauses w.𝓛 w.𝓜.mem w.𝓡.returns κs a).ensures tt r s
     ≡ fact w.𝓤 (Lent a.0.now a.1.0 a.1.1.0 a.1.1.1.0 a.1.1.1.1.0 r s.0.now)
 lent_ensures w κs a r s = refl
 
