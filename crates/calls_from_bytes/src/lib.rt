@@ -56,12 +56,7 @@ fn print_answer<W: Write>(out: &mut W, name: &[u8], answer: Answer) -> io::Resul
 }
 
 // The outcome, its answer printed.
-fn settle<W: Write>(
-    out: &mut W,
-    name: &[u8],
-    next: Cursor,
-    outcome: Outcome,
-) -> io::Result<After>
+fn settle<W: Write>(out: &mut W, name: &[u8], next: Cursor, outcome: Outcome) -> io::Result<After>
     ensures { IfOk result (λ done. Onward next done.next) }
 {
     let answer = outcome.answer;
@@ -368,7 +363,13 @@ fn day_file<W: Write>(out: &mut W, s: &[u8], from: Cursor, day: PointDay) -> io:
 // ---- the run
 
 // The call that a byte stands for, with its arguments.
-fn call<W: Write>(out: &mut W, s: &[u8], from: Cursor, byte: u64, day: PointDay) -> io::Result<After>
+fn call<W: Write>(
+    out: &mut W,
+    s: &[u8],
+    from: Cursor,
+    byte: u64,
+    day: PointDay,
+) -> io::Result<After>
     ensures { IfOk result (λ done. Onward from done.next) }
 {
     match byte {
