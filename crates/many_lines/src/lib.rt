@@ -87,8 +87,8 @@ fn enter_lines<'a>(
     consumptions: &'a [u64],
     coefficients: &'a [u64],
 ) -> LinesEntered
-    requires day_value { (is_readable day.old ≡ true) × Stands slots.now count offtake (day_in day.old) }
-    requires coefficients_value { same_lengths users.now kinds.now consumptions.now coefficients.now ≡ true }
+    requires taken { (is_readable day.old ≡ true) × Stands slots.now count offtake (day_in day.old) }
+    requires equal_lengths { same_lengths users.now kinds.now consumptions.now coefficients.now ≡ true }
     ensures { plain result.status (pos result.accepted ∷ pos result.losses ∷ []) day.new ≡ in_numbers (line_calls (lines_in users.now kinds.now consumptions.now coefficients.now) (day_in day.old)) day.old }
 {
     let hints = hints_of(slots, count);

@@ -12,48 +12,48 @@ use Rattle.many_lines.proofs.enter_lines.Goals as goal
 
 pub hints_of-hints-requires : goal.hints_of-hints-requires
 hints_of-hints-requires c =
-    let s = c.requires.day_value.1 in
+    let s = c.requires.taken.1 in
     (omega (arith, few s, users_long s), few s)
 
 pub loop-i-init : goal.loop-i-init
 loop-i-init c =
     let a = c.args in
-    (omega arith, refl, none_yet (line_in a.users.now a.kinds.now a.consumptions.now a.coefficients.now) a.day.now a.slots.now a.count c.requires.day_value.0 c.requires.day_value.1)
+    (omega arith, refl, none_yet (line_in a.users.now a.kinds.now a.consumptions.now a.coefficients.now) a.day.now a.slots.now a.count c.requires.taken.0 c.requires.taken.1)
 
 pub offset_bounds-consumptions-i : goal.offset_bounds-consumptions-i
 offset_bounds-consumptions-i c =
     let a = c.args in
-    let l : c.loop-i.i < length a.consumptions.now = omega (arith, consumptions_long a.users.now a.kinds.now a.consumptions.now a.coefficients.now c.requires.coefficients_value) in
+    let l : c.loop-i.i < length a.consumptions.now = omega (arith, consumptions_long a.users.now a.kinds.now a.consumptions.now a.coefficients.now c.requires.equal_lengths) in
     search (rules, l)
 
 pub bounds-consumptions-i : goal.bounds-consumptions-i
 bounds-consumptions-i c =
     let a = c.args in
-    omega (arith, consumptions_long a.users.now a.kinds.now a.consumptions.now a.coefficients.now c.requires.coefficients_value)
+    omega (arith, consumptions_long a.users.now a.kinds.now a.consumptions.now a.coefficients.now c.requires.equal_lengths)
 
 pub slot_near-slot-requires : goal.slot_near-slot-requires
 slot_near-slot-requires c =
-    let s = c.requires.day_value.1 in
+    let s = c.requires.taken.1 in
     (c.hints_of-hints.ensures, omega (arith, few s, users_long s))
 
 pub bounds-kinds-i : goal.bounds-kinds-i
 bounds-kinds-i c =
     let a = c.args in
-    omega (arith, kinds_long a.users.now a.kinds.now a.consumptions.now a.coefficients.now c.requires.coefficients_value)
+    omega (arith, kinds_long a.users.now a.kinds.now a.consumptions.now a.coefficients.now c.requires.equal_lengths)
 
 pub offset_bounds-coefficients-i : goal.offset_bounds-coefficients-i
 offset_bounds-coefficients-i c =
     let a = c.args in
-    let l : c.loop-i.i < length a.coefficients.now = omega (arith, coefficients_long a.users.now a.kinds.now a.consumptions.now a.coefficients.now c.requires.coefficients_value) in
+    let l : c.loop-i.i < length a.coefficients.now = omega (arith, coefficients_long a.users.now a.kinds.now a.consumptions.now a.coefficients.now c.requires.equal_lengths) in
     search (rules, l)
 
 pub bounds-coefficients-i : goal.bounds-coefficients-i
 bounds-coefficients-i c =
     let a = c.args in
-    omega (arith, coefficients_long a.users.now a.kinds.now a.consumptions.now a.coefficients.now c.requires.coefficients_value)
+    omega (arith, coefficients_long a.users.now a.kinds.now a.consumptions.now a.coefficients.now c.requires.equal_lengths)
 
 pub slot_test-test-requires : goal.slot_test-test-requires
-slot_test-test-requires c = (c.slot_near-slot.ensures.within, few c.requires.day_value.1, sum_small c.loop-i.invariant.2.stands)
+slot_test-test-requires c = (c.slot_near-slot.ensures.within, few c.requires.taken.1, sum_small c.loop-i.invariant.2.stands)
 
 pub shape_of-day-in-Refused : goal.shape_of-day-in-Refused
 shape_of-day-in-Refused c = c.loop-i.invariant.1
@@ -76,7 +76,7 @@ add-requires c =
     let v = c.loop-i in
     let A = v.invariant.2 in
     let i = v.i in
-    let L : Lines (f i).user (f i).kind (f i).consumption (f i).coefficient A.point c.in-Passed.place c.in-Passed.added = rw c.in-Passed.is at (c.slot_test-test.ensures a.slots.now A.point A.stands c.slot_near-slot.ensures) in record { day_len = (v.invariant.1 ∙ laid_length xs c.requires.day_value.0, L.place, L.amount, L.added); within = (rw A.numbers (consumption_room A.stands L xs), rw A.numbers (losses_room A.stands L xs)) }
+    let L : Lines (f i).user (f i).kind (f i).consumption (f i).coefficient A.point c.in-Passed.place c.in-Passed.added = rw c.in-Passed.is at (c.slot_test-test.ensures a.slots.now A.point A.stands c.slot_near-slot.ensures) in record { day_len = (v.invariant.1 ∙ laid_length xs c.requires.taken.0, L.place, L.amount, L.added); within = (rw A.numbers (consumption_room A.stands L xs), rw A.numbers (losses_room A.stands L xs)) }
 
 pub overflow_add-sum : goal.overflow_add-sum
 overflow_add-sum c =

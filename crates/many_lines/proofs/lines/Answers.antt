@@ -36,7 +36,7 @@ overflow_cast-sum c =
 pub enter_lines-entered-requires : goal.enter_lines-entered-requires
 enter_lines-entered-requires c =
     let T = c.test_numbers-state.ensures in
-    let y = not-false _ c.if-not-state.false-raw in record { day_value = (T.readable y, stands ((T.state y).known y) c.if-state.false); coefficients_value = sym c.same_lengths.ensures ∙ not-false _ c.if-not-same_lengths.false-raw }
+    let y = not-false _ c.if-not-state.false-raw in record { taken = (T.readable y, stands ((T.state y).known y) c.if-state.false); equal_lengths = sym c.same_lengths.ensures ∙ not-false _ c.if-not-same_lengths.false-raw }
 
 pub returns : goal.returns
 returns c =

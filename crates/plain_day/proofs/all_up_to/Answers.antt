@@ -1,6 +1,5 @@
 -- `plain_day::all_up_to` meets its contract: every number passed so far is in range. Assumes nothing.
 use mathlib.Core.Path.{sym, ◌∙◌}
-use Prim.Native.Nat.{◌-◌}
 use native.Mathlib.Omega.{arith}
 use lib.IntN.{pos}
 use mir.Syntax.{w64}

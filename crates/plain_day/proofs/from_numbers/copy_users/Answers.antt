@@ -1,6 +1,5 @@
 -- `plain_day::from_numbers::copy_users` meets its contract: the first i numbers are written. Assumes nothing.
 use mathlib.Core.Path.{◌≡◌, ap, ◌∙◌}
-use Prim.Native.Nat.{◌-◌}
 use native.Mathlib.Omega.{arith}
 use lib.IntN.{pos, nat_abs}
 use lib.ListN.{length}

@@ -1,6 +1,5 @@
 -- `plain_day::writes::clear` meets its contract: from its place to place i there are zeros. Assumes nothing.
 use mathlib.Core.Path.{refl, ◌∙◌}
-use Prim.Native.Nat.{◌-◌}
 use native.Mathlib.Omega.{arith}
 use lib.IntN.{pos}
 use lib.ListN.{length-set}
