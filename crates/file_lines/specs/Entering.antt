@@ -1,6 +1,6 @@
 -- While a day file is entered: the point-day that lent arrays stand for, and what calls on it come to: the contracts of the functions that
 -- enter a line, a section and all sections. Assumes nothing. No exported contract leans on it.
-use Rattle.std.specs.Prelude.{◌≡◌, true, false, List, ◌++◌, ℕ, ◌+◌, ℤ, pos, length, replicate}
+use Rattle.std.specs.Prelude.{◌≡◌, true, false, List, ◌++◌, ℕ, ℤ, pos, length, replicate}
 use Rattle.point_day.specs.Limits.{USERS, CELLS}
 use Rattle.point_day.specs.Fields.{point_day}
 use Rattle.point_day.specs.Day.{all_offtake, measurement_right}

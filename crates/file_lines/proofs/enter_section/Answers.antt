@@ -1,6 +1,6 @@
 -- `file_lines::enter_section` meets its contract. Assumes nothing.
 use mathlib.Core.Path.{◌≡◌, ap, ◌∙◌, subst}
-use Prim.Native.Nat.{◌+◌, ◌-◌, ◌*◌}
+use Prim.Native.Nat.{◌+◌, ◌*◌}
 use Rattle.numbers.specs.Sums.{table}
 use Rattle.day_file.specs.declared.Section.{Section}
 use Rattle.day_file.specs.Form.{u16, section_at, line_count}

@@ -1,6 +1,5 @@
 -- `file_lines::enter_sections` meets its contract. Assumes nothing.
 use mathlib.Core.Path.{◌≡◌, subst}
-use Prim.Native.Nat.{◌-◌}
 use mathlib.Core.List.{map}
 use Rattle.numbers.specs.Lists.{flat}
 use Rattle.day_file.specs.Form.{sections}
