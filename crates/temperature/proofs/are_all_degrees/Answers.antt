@@ -1,6 +1,5 @@
 -- `temperature::are_all_degrees` meets its contract. The rest of the list from the place reached is in range just where the whole list is. Assumes nothing.
 use mathlib.Core.Path.{refl, sym, ◌∙◌}
-use Prim.Native.Nat.{◌-◌}
 use native.Mathlib.Omega.{arith}
 use borrow.Author.Tests.{le-leb, lt-leb}
 use Rattle.temperature.specs.Temperature.{MOST_DEGREES, is_degrees}

@@ -1,5 +1,4 @@
 -- `temperature::total_of` meets its contract. The sum so far and the rest of the list make the sum of the list. Assumes nothing.
-use Prim.Native.Nat.{◌-◌}
 use native.Mathlib.Omega.{arith}
 use Rattle.temperature.specs.Temperature.{MOST_DEGREES}
 use Rattle.numbers.proofs.Totals.{total_next, total_end, total_most}

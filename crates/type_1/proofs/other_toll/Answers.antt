@@ -21,7 +21,7 @@ use Rattle.months.specs.declared.Month.{Month}
 use Rattle.supply.specs.declared.Amount.{Amount}
 use Rattle.type_1.specs.Type1.{other_right, sharing, other_toll}
 use Rattle.type_1.proofs.Bases.{small_other}
-use Rattle.type_1.proofs.Tolls.{RightOther, right_other, Shares, shares}
+use Rattle.type_1.proofs.Tolls.{RightOther, right_other, shares}
 use Rattle.type_1.proofs.other_toll.Goals as goal
 
 -- the tests have passed
@@ -94,8 +94,7 @@ day_of_month-requires c =
     let p = passed c.args.day c.args.holidays.now c.args.last_year c.args.c_c c.args.last_month c.args.day_flow c.args.f_c c.args.c_f c.is_other_toll.ensures c.if-not-is_other_toll.false-raw in
     let b = small c.args.day c.args.holidays.now c.args.last_year c.args.c_c c.args.last_month c.args.day_flow c.args.f_c c.args.c_f c.is_other_toll.ensures c.if-not-is_other_toll.false-raw in
     let n = shared c.args.holidays.now c.args.day c.month_of_day-month.ensures c.type_of_day.ensures c.is_working-working.ensures c.working_days-lab.ensures c.days_for-days.ensures in
-    let s = shares c.args.holidays.now c.args.day p.day in
-    (
+    let s = shares c.args.holidays.now c.args.day p.day in (
       rw (c.month_of_other-basis.ensures, c.month_of_day-month.ensures) b,
       omega (arith, c.part_for.ensures, part_small c.is_working-working.result c.args.c_f p.share),
       omega (arith, n, s.some),

@@ -59,8 +59,7 @@ pub day_of_month-requires : goal.day_of_month-requires
 day_of_month-requires c =
     let p = passed c.args.day c.args.last_year c.args.g c.args.last_days.now c.args.last_month c.args.year_flow c.is_toll_34.ensures c.if-not-is_toll_34.false-raw in
     let b = small c.args.day c.args.last_year c.args.g c.args.last_days.now c.args.last_month c.args.year_flow c.is_toll_34.ensures c.if-not-is_toll_34.false-raw in
-    let h = (month_holds _ p.day).long in
-    (
+    let h = (month_holds _ p.day).long in (
       rw (c.month_of_34-basis.ensures, c.correction_of-correction.ensures, c.mean_of-mean.ensures) b,
       omega arith,
       rw c.month_of_day-month.ensures (omega (arith, h.least)),

@@ -1,13 +1,12 @@
 -- `type_2::profile` meets its contract. Refusals by the tests; else the quotient, whose divisor is above 0. Assumes nothing.
-use mathlib.Core.Path.{◌≡◌, sym, ap, ◌∙◌}
-use mathlib.Core.Bool.{true}
+use mathlib.Core.Path.{sym, ap, ◌∙◌}
 use Prim.Native.Nat.{◌+◌, ◌≤◌}
 use native.Mathlib.Nat.{mul-le-mul, mul-pos, pos_of_ne-zero}
 use native.Mathlib.Omega.{arith}
 use borrow.Author.Tests.{eq-eqb, ne_eqb, not-true, not-false}
 use Rattle.calendar.specs.Answers.{given, tested}
-use Rattle.type_2.specs.Type2.{year_right, profile}
-use Rattle.type_2.proofs.Profiling.{RightYear, right_year}
+use Rattle.type_2.specs.Type2.{profile}
+use Rattle.type_2.proofs.Profiling.{right_year}
 use Rattle.type_2.proofs.profile.Goals as goal
 
 pub returns-then-not-is_year : goal.returns-then-not-is_year

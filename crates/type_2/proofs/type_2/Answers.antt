@@ -13,7 +13,7 @@ use Rattle.temperature.proofs.Winters.{winters_sound}
 use Rattle.temperature.proofs.Fractions.{corrects}
 use Rattle.supply.specs.Amounts.{limited}
 use Rattle.type_2.specs.Type2.{MOST_PRODUCT, KILO, type_2_right, type_2}
-use Rattle.type_2.proofs.Profiling.{Right2, right_2}
+use Rattle.type_2.proofs.Profiling.{right_2}
 use Rattle.type_2.proofs.type_2.Goals as goal
 
 -- C_temp2, once the tests have passed
