@@ -4,7 +4,7 @@
 use Rattle.std.specs.Prelude.{◌≡◌, ℕ, ℤ, pos}
 use mathlib.Core.List.{List, [], ◌∷◌, map, zip_with}
 use contract.Lifetimes.{Lfts}
-use Rattle.std.specs.Borrow.{Bor}
+use Rattle.std.specs.Borrow.{Bor, MutBor}
 use Rattle.point_day.specs.Answers.{Answer, refused, done, losses_added, rows_looked_at, within_tolerance, revision_assigned}
 use Rattle.point_day.specs.Struct.{laid, rows_of}
 use Rattle.stand_in.specs.Rows.{rows_in}
@@ -29,10 +29,10 @@ use Rattle.day_book.specs.Claim.{Demand3}
 
 -- the lent numbers of a point-day, and a lent number
 abbrev pub Numbers : Type 0
-Numbers = Bor (List ℤ)
+Numbers = MutBor (List ℤ)
 
 abbrev pub Number : Type 0
-Number = Bor ℕ
+Number = MutBor ℕ
 
 abbrev pub Fresh : Lfts 1 → Numbers → ℕ → Numbers → Type 0
 Fresh κs day r day' = fresh.Learnt κs (day, tt) r (day', tt)
@@ -55,7 +55,7 @@ abbrev pub StoodIn : Lfts 3 → Numbers → Bor (List ℕ) → Bor (List ℕ) �
 StoodIn κs day counts users amounts rows r day' rows' =
     stood_in.Learnt κs (day, (counts, (users, (amounts, (rows, tt))))) r (day', (counts, (users, (amounts, (rows', tt)))))
 
-abbrev pub Revised : Lfts 3 → Numbers → Number → Bor ℤ → ℕ → Numbers → Number → Bor ℤ → Type 0
+abbrev pub Revised : Lfts 3 → Numbers → Number → MutBor ℤ → ℕ → Numbers → Number → MutBor ℤ → Type 0
 Revised κs day within amount r day' within' amount' =
     revised.Learnt κs (day, (within, (amount, tt))) r (day', (within', (amount', tt)))
 
@@ -93,7 +93,7 @@ pub data Results : Calls → List Said → List ℤ → Type 0 where
       → Results (cs then call.stand_in (rows_of (rows_in counts.now users.now amounts.now)))
       (said r (pos rows.now ∷ []) (pos rows'.now ∷ []) ∷ ss) day'.now
   revise : {cs : Calls} {ss : List Said} (κs : Lfts 3) (day day' : Numbers) → Results cs ss day.now → (r : ℕ)
-      (within within' : Number) (amount amount' : Bor ℤ) → Revised κs day within amount r day' within' amount'
+      (within within' : Number) (amount amount' : MutBor ℤ) → Revised κs day within amount r day' within' amount'
       → Results (cs then call.revise) (said r (pos within.now ∷ amount.now ∷ []) (pos within'.now ∷ amount'.now ∷ []) ∷ ss) day'.now
   start_final : {cs : Calls} {ss : List Said} (κs : Lfts 1) (day day' : Numbers) → Results cs ss day.now → (r : ℕ)
       → Restarted κs day r day' → Results (cs then call.start_final) (said r [] [] ∷ ss) day'.now
