@@ -16,14 +16,14 @@ pub returns-then-tags-values : goal.returns-then-tags-values
 returns-then-tags-values c =
     let s = c.args in
     let f = flows_in s.toll s.yearly.now s.daily.now s.factor in
-    rw (ne_eqb _ _ c.if-tags-values.true)
+    rw (ne_eqb (length s.tags.now) (length s.values.now) (λ e. omega arith))
     (sym (ap (λ a. settles estimate_numbers a (s.consumption.now ∷ s.looked_at.now ∷ [])) (too_long s.day s.holidays.now (amount_in s.reading.now) (own_of (amount_in s.own.now)) f (ENTRIES + 1) (entries_in s.tags.now s.values.now) (omega arith))))
 
 pub returns-then-tags-gt-ENTRIES : goal.returns-then-tags-gt-ENTRIES
 returns-then-tags-gt-ENTRIES c =
     let s = c.args in
     let f = flows_in s.toll s.yearly.now s.daily.now s.factor in
-    rw (eq-eqb _ _ c.if-tags-values.false)
+    rw (eq-eqb (length s.tags.now) (length s.values.now) (omega arith))
     (sym (ap (λ a. settles estimate_numbers a (s.consumption.now ∷ s.looked_at.now ∷ [])) (too_long s.day s.holidays.now (amount_in s.reading.now) (own_of (amount_in s.own.now)) f (length s.tags.now) (entries_in s.tags.now s.values.now) c.if-tags-gt-ENTRIES.true)))
 
 pub returns-in-Refused : goal.returns-in-Refused
@@ -38,7 +38,7 @@ returns-in-Refused c =
     let same = same_answer s.day s.holidays.now a o f n c.history_in.result es (c.history_in.ensures ∙ sym (all_entries s.tags.now s.values.now)) in
     let given = c.own_of.ensures ∙ ap own_of c.amount_in-2.ensures in
     let told = rw (c.amount_in.ensures, given, c.flows_in.ensures) at t in
-    rw (eq-eqb _ _ c.if-tags-values.false)
+    rw (eq-eqb (length s.tags.now) (length s.values.now) (omega arith))
     (sym (ap (λ x. settles estimate_numbers (answer_of x) (s.consumption.now ∷ s.looked_at.now ∷ [])) c.in-Refused.is)
     ∙ ap (λ x. settles estimate_numbers x (s.consumption.now ∷ s.looked_at.now ∷ [])) (told ∙ same))
 
@@ -54,6 +54,6 @@ returns-in-Consumption c =
     let same = same_answer s.day s.holidays.now a o f n c.history_in.result es (c.history_in.ensures ∙ sym (all_entries s.tags.now s.values.now)) in
     let given = c.own_of.ensures ∙ ap own_of c.amount_in-2.ensures in
     let told = rw (c.amount_in.ensures, given, c.flows_in.ensures) at t in
-    rw (eq-eqb _ _ c.if-tags-values.false, c.give_two.ensures.0, c.give_two.ensures.1, c.give_two.ensures.2)
+    rw (eq-eqb (length s.tags.now) (length s.values.now) (omega arith), c.give_two.ensures.0, c.give_two.ensures.1, c.give_two.ensures.2)
     (sym (ap (λ x. settles estimate_numbers (answer_of x) (s.consumption.now ∷ s.looked_at.now ∷ [])) c.in-Consumption.is)
     ∙ ap (λ x. settles estimate_numbers x (s.consumption.now ∷ s.looked_at.now ∷ [])) (told ∙ same))
