@@ -4,6 +4,7 @@ use native.Mathlib.Omega.{arith}
 use lib.ListN.{length}
 use borrow.Author.Rules.{rules}
 use Rattle.numbers.specs.Sums.{table}
+use Rattle.numbers.specs.Amounts.{SAFE, Within}
 use Rattle.numbers.proofs.Amounts.{back, within_pos}
 use Rattle.numbers.proofs.Sums.{length_table}
 use Rattle.point_day.specs.Limits.{USERS}
@@ -29,7 +30,7 @@ minus-day_balance-requires c =
     let k = a.has.known in
     let net = c.net in
     let w = sum_small _ k.sized k.is_taken a.entering k.sum in
-    (rw (back (within_pos net.result) (omega (arith, net.ensures.1))) record { size = omega (arith, net.ensures.1) }, rw (back w (omega arith)) record { size = omega (arith, w.size) })
+    (rw (back (within_pos net.result) (omega (arith, net.ensures.1))) record { size = omega (arith, net.ensures.1) }, subst⁻¹ (Within SAFE) (back w (omega arith)) (record { size = omega (arith, w.size) }))
 
 pub balance_cells-requires : goal.balance_cells-requires
 balance_cells-requires c =

@@ -1,5 +1,6 @@
 -- `columns::all_limited` meets its contract: no amount passed so far has it. Assumes nothing.
-use mathlib.Core.Path.{sym, ◌∙◌}
+use mathlib.Core.Path.{◌≡◌, sym, ◌∙◌}
+use mathlib.Core.Bool.{true}
 use native.Mathlib.Omega.{arith}
 use lib.IntN.{ℤ, pos, nat_abs}
 use lib.Dec.{leb}
@@ -7,7 +8,7 @@ use mir.Syntax.{w64}
 use mir.Val.{SFits}
 use mir.Facts.{to_z-of_z}
 use borrow.Author.Count.{below_more}
-use borrow.Author.Tests.{not-true, not-false}
+use borrow.Author.Tests.{not-true}
 use Rattle.numbers.specs.Sums.{atZ}
 use Rattle.point_day.specs.Limits.{AMOUNT}
 use Rattle.numbers.proofs.Places.{one_fails, at_every}
@@ -27,7 +28,8 @@ pub loop-i-preserved : goal.loop-i-preserved
 loop-i-preserved c =
     let zs = c.args.amounts.now in
     let h : SFits w64 (atZ zs c.loop-i.i) = search rules in
-    (omega arith, below_more _ _ c.loop-i.invariant.1 (sym (rw (to_z-of_z h) at c.size_at_most.ensures) ∙ not-false _ c.if-not-size_at_most.false-raw))
+    let small : c.size_at_most.result ≡ true = search rules in
+    (omega arith, below_more _ _ c.loop-i.invariant.1 (sym (rw (to_z-of_z h) at c.size_at_most.ensures) ∙ small))
 
 pub returns : goal.returns
 returns c =

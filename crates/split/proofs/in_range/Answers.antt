@@ -14,15 +14,15 @@ pub returns-then-ws-gt-PARTIES : goal.returns-then-ws-gt-PARTIES
 returns-then-ws-gt-PARTIES c = sym (too_many c.args.amount c.args.ws.now c.args.keys.now (sym (rw (to_z-of_z c.ranges.amount) at c.size_at_most.ensures) ∙ not-false _ c.if-not-size_at_most.false-raw) (omega arith) c.if-ws-gt-PARTIES.true)
 
 pub returns-then-keys-ws : goal.returns-then-keys-ws
-returns-then-keys-ws c = sym (no_key c.args.amount c.args.ws.now c.args.keys.now (sym (rw (to_z-of_z c.ranges.amount) at c.size_at_most.ensures) ∙ not-false _ c.if-not-size_at_most.false-raw) (omega arith) c.if-ws-gt-PARTIES.false c.if-keys-ws.true)
+returns-then-keys-ws c = sym (no_key c.args.amount c.args.ws.now c.args.keys.now (sym (rw (to_z-of_z c.ranges.amount) at c.size_at_most.ensures) ∙ not-false _ c.if-not-size_at_most.false-raw) (omega arith) c.if-ws-gt-PARTIES.false (λ e. omega arith))
 
 pub returns-then-not-none_above : goal.returns-then-not-none_above
 returns-then-not-none_above c =
     let w = sym c.none_above.ensures ∙ not-true _ c.if-not-none_above.true-raw in
-    sym (no_weight c.args.amount c.args.ws.now c.args.keys.now (sym (rw (to_z-of_z c.ranges.amount) at c.size_at_most.ensures) ∙ not-false _ c.if-not-size_at_most.false-raw) (omega arith) c.if-ws-gt-PARTIES.false c.if-keys-ws.false w)
+    sym (no_weight c.args.amount c.args.ws.now c.args.keys.now (sym (rw (to_z-of_z c.ranges.amount) at c.size_at_most.ensures) ∙ not-false _ c.if-not-size_at_most.false-raw) (omega arith) c.if-ws-gt-PARTIES.false (omega arith) w)
 
 pub returns : goal.returns
 returns c =
     let w = sym c.none_above.ensures ∙ not-false _ c.if-not-none_above.false-raw in
     c.are_distinct.ensures
-    ∙ sym (by_keys c.args.amount c.args.ws.now c.args.keys.now (sym (rw (to_z-of_z c.ranges.amount) at c.size_at_most.ensures) ∙ not-false _ c.if-not-size_at_most.false-raw) (omega arith) c.if-ws-gt-PARTIES.false c.if-keys-ws.false w)
+    ∙ sym (by_keys c.args.amount c.args.ws.now c.args.keys.now (sym (rw (to_z-of_z c.ranges.amount) at c.size_at_most.ensures) ∙ not-false _ c.if-not-size_at_most.false-raw) (omega arith) c.if-ws-gt-PARTIES.false (omega arith) w)

@@ -14,7 +14,7 @@ use Rattle.allot.proofs.shares.spread.Goals as goal
 
 pub prorate_signed-requires : goal.prorate_signed-requires
 prorate_signed-requires c =
-    let ones = bounded_five LARGEST_WEIGHT 1 0 0 0 0 (omega arith) (omega arith) (omega arith) (omega arith) (omega arith) in record { within = (rw (back c.requires.0 (omega arith)) c.requires.0, unfold total in refl, omega arith, omega arith, ones); ws_in_bounds = (omega arith, omega (arith, c.requires.3)) }
+    record { within = (rw (back c.requires.0 (omega arith)) c.requires.0, unfold total in refl, omega arith, omega arith, bounded_five LARGEST_WEIGHT _ _ _ _ _ (omega arith) (omega arith) (omega arith) (omega arith) (omega arith)); ws_in_bounds = (omega arith, omega (arith, c.requires.3)) }
 
 pub prorate_signed-requires-else-total-eq0 : goal.prorate_signed-requires-else-total-eq0
 prorate_signed-requires-else-total-eq0 c =

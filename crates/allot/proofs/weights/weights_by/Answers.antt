@@ -1,7 +1,6 @@
 -- `allot::weights::weights_by` meets its contract: a buffer that is filled slot by slot. Assumes nothing.
 use mathlib.Core.Path.{◌≡◌, sym, ap, ◌∙◌}
 use Rattle.numbers.specs.Sums.{table}
-use Prim.Native.Nat.{◌-◌}
 use lib.ListN.{length}
 use Rattle.numbers.proofs.Filled.{fill_none, fill_step, fill_all}
 use native.Mathlib.Omega.{arith}
