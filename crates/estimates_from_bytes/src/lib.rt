@@ -244,10 +244,13 @@ fn degree_days<W: Write>(out: &mut W, s: &[u8], from: Cursor) -> io::Result<Curs
     let tmax = values_from_bytes::read_word(s, tmin.next);
     let next = tmax.next;
     if next.ok {
-        print_degree_days(out, degree_days::degree_days(
-            values_from_bytes::signed(tmin.value),
-            values_from_bytes::signed(tmax.value),
-        ))?;
+        print_degree_days(
+            out,
+            degree_days::degree_days(
+                values_from_bytes::signed(tmin.value),
+                values_from_bytes::signed(tmax.value),
+            ),
+        )?;
     }
     Ok(next)
 }
@@ -266,7 +269,9 @@ fn zone<W: Write>(out: &mut W, s: &[u8], from: Cursor) -> io::Result<Cursor>
 fn print_province<W: Write>(out: &mut W, answer: ProvinceAnswer) -> io::Result<()> {
     match answer {
         ProvinceAnswer::Refused(n) => output::refused(out, n),
-        ProvinceAnswer::ValueAndZone { value, zone } => output::two(out, b"province",
+        ProvinceAnswer::ValueAndZone { value, zone } => output::two(
+            out,
+            b"province",
             value as u64,
             zone as u64,
         ),
@@ -287,7 +292,12 @@ fn province<W: Write>(out: &mut W, s: &[u8], from: Cursor) -> io::Result<Cursor>
 // ---- spreading a reading
 
 // The answer, and the lent numbers after it.
-fn print_spread<W: Write>(out: &mut W, reading: u64, weights: &[i64], lent: &mut [i64]) -> io::Result<()> {
+fn print_spread<W: Write>(
+    out: &mut W,
+    reading: u64,
+    weights: &[i64],
+    lent: &mut [i64],
+) -> io::Result<()> {
     let answer = spread::spread(reading, weights, lent);
     match answer {
         SpreadAnswer::Refused(n) => {

@@ -8,3 +8,9 @@ slice_bounds-print_report-count g c =
     let n = c.read_u32-length.result in
     let p = passed_inside c.args.s.now n.next n.value c.pass-next.ensures.0 c.if-next.true in
     omega (arith, p.0, p.1)
+
+pub slice_bounds-print_report-end : goal.slice_bounds-print_report-end
+slice_bounds-print_report-end g c =
+    let n = c.read_u32-length.result in
+    let p = passed_inside c.args.s.now n.next n.value c.pass-next.ensures.0 c.if-next.true in
+    omega (arith, p.0, p.1)

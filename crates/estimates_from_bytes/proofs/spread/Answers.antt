@@ -5,4 +5,4 @@ use lib.Seq.{length-take-le}
 use Rattle.estimates_from_bytes.proofs.spread.Goals as goal
 
 pub slice_bounds-print_spread-end-then-next : goal.slice_bounds-print_spread-end-then-next
-slice_bounds-print_spread-end-then-next c = sym (length-take-le _ _ (omega arith))
+slice_bounds-print_spread-end-then-next g c = sym (length-take-le _ _ (omega arith))
