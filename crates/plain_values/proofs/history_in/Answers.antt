@@ -1,6 +1,5 @@
 -- `plain_values::history_in` meets its contract. The array is filled from its start with the entries that tags and values spell. Assumes nothing.
 use mathlib.Core.Path.{◌≡◌, ap, ◌∙◌}
-use Prim.Native.Nat.{◌-◌}
 use native.Mathlib.Omega.{arith}
 use lib.ListN.{take, length}
 use lib.Seq.{take_at}
