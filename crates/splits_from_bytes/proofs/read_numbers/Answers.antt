@@ -1,6 +1,5 @@
 -- `splits_from_bytes::read_numbers` is safe and ends: `i` rises to the length of the list, which stays. Assumes nothing.
 use mathlib.Core.Path.{refl}
-use Prim.Native.Nat.{◌-◌}
 use native.Mathlib.Omega.{arith}
 use lib.ListN.{length-set}
 use Rattle.splits_from_bytes.proofs.read_numbers.Goals as goal
