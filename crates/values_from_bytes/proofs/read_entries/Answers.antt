@@ -1,5 +1,4 @@
 -- `values_from_bytes::read_entries` is safe and ends: `i` rises to the count, and the array keeps its length. Assumes nothing.
-use Prim.Native.Nat.{◌-◌}
 use native.Mathlib.Omega.{arith}
 use lib.ListN.{length-set}
 use borrow.Author.Rules.{rules}

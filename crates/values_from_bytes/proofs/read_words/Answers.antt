@@ -1,6 +1,5 @@
 -- `values_from_bytes::read_words` is safe and ends: `i` rises to the list's length, which stays. Assumes nothing.
 use mathlib.Core.Path.{refl}
-use Prim.Native.Nat.{◌-◌}
 use native.Mathlib.Omega.{arith}
 use lib.ListN.{length-set}
 use Rattle.values_from_bytes.proofs.read_words.Goals as goal
