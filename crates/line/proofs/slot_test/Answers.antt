@@ -45,7 +45,7 @@ returns-then-offtake-amount-gt-LIMIT c us d s p =
     let q : Placed a.user d.count d.users a.slot = rw (s.joined, s.users) p in
     let here : a.slot < d.count = omega (arith, c.requires.0, c.if-slot-count.false, s.joined) in
     let l = c.line_losses-added in
-    line_6 a.user a.kind a.amount a.coefficient d s.sized s.is_taken s.entering h a.slot q here a.offtake l.result s.sum l.ensures.0 c.if-offtake-amount-gt-LIMIT.true
+    line_6 a.user a.kind a.amount a.coefficient d s.sized s.is_taken s.entering h a.slot q here a.offtake l.result s.sum l.ensures.0 (omega (arith, c.if-offtake-amount-gt-LIMIT.true))
 
 pub overflow_sub-result : goal.overflow_sub-result
 overflow_sub-result c =

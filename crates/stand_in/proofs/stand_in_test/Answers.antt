@@ -50,7 +50,7 @@ returns-then-net-tolerance c =
     let r = sym c.rows_right.ensures ∙ not-false _ c.if-not-rows_right.false-raw in
     let m = measured_is k ∙ sym c.is_measured.ensures ∙ not-false _ c.if-not-is_measured.false-raw in
     let n = c.net-net in
-    stand_in_9 d k.sized k.is_taken (rows_in a.counts.now a.joining.now a.amounts.now) a.tolerance o r m n.result (n.ensures.0 ∙ net_is k) (le-leb n.result a.tolerance c.if-net-tolerance.true))
+    stand_in_9 d k.sized k.is_taken (rows_in a.counts.now a.joining.now a.amounts.now) a.tolerance o r m n.result (n.ensures.0 ∙ net_is k) (le-leb n.result a.tolerance (omega (arith, c.if-net-tolerance.true))))
 
 pub nearest_filled-row-requires : goal.nearest_filled-row-requires
 nearest_filled-row-requires c =

@@ -4,11 +4,12 @@ use mathlib.Core.Bool.{true, not}
 use Prim.Native.Nat.{ℕ, ◌≤◌}
 use lib.Dec.{lit≤, lit<}
 use lib.IntN.{ℤ, pos, nat_abs, ◌-ℤ◌}
+use borrow.Author.Rules.{rules}
 use borrow.Author.Tests.{leb-true, not-true}
 use mir.Syntax.{w64}
 use mir.Val.{to_z, of_z}
 use mir.Facts.{to_z-of_z}
-use Rattle.numbers.specs.Amounts.{Within, is_negative}
+use Rattle.numbers.specs.Amounts.{SAFE, Within, is_negative}
 use Rattle.numbers.proofs.Lists.{both_fst, both_snd}
 use Rattle.numbers.proofs.Amounts.{widen, back, pos_size, size_sub}
 use Rattle.point_day.specs.Limits.{LIMIT}
@@ -27,7 +28,9 @@ difference_within n s l e = record { size = rw (sum_pos s e) (size_sub n (nat_ab
 pub minus-requires : goal.minus-requires
 minus-requires c =
     let n : Within LIMIT (pos c.net.result) = record { size = c.net.ensures.1 } in
-    rw (back n (lit< tt), to_z-of_z c.ranges.allotted) (widen n (lit≤ tt), widen (sum_within c.args.allotted c.requires.1) (lit≤ tt))
+    let safe : Within SAFE (pos c.net.result) = widen n (lit≤ tt) in
+    let sum_safe : Within SAFE c.args.allotted = widen (sum_within c.args.allotted c.requires.1) (lit≤ tt) in
+    rw (back n (lit< tt), to_z-of_z c.ranges.allotted) (search (rules, safe, sum_safe))
 
 pub returns : goal.returns
 returns c =

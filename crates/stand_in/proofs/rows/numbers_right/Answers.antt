@@ -7,7 +7,7 @@ pub loop-i-init : goal.loop-i-init
 loop-i-init c = (omega arith, risen_none _)
 
 pub returns-then-user-last : goal.returns-then-user-last
-returns-then-user-last c = risen_stop c.args.users.now c.loop-i.invariant.1 (omega arith) c.if-user-last.true
+returns-then-user-last c = risen_stop c.args.users.now c.loop-i.invariant.1 (omega arith) (omega arith)
 
 pub loop-i-preserved : goal.loop-i-preserved
 loop-i-preserved c = (omega arith, risen_more c.args.users.now c.loop-i.invariant.1 c.if-user-last.false (omega (arith, c.shared_slice_known-1.given c.loop-i.i)))
