@@ -29,7 +29,7 @@ use Rattle.line.specs.Lined.{with_cells, Lines, Stands}
 use Rattle.line.proofs.Lining.{line_1, line_2, line_3, line_6, line_passed}
 use Rattle.file_lines.proofs.Leading.{table_rest}
 use Rattle.plain_day.specs.Layout.{EMISSION_AT, DOWNSTREAM_AT, USERS_AT, part, up_to, emissions_readable, head_readable, is_readable, allotted_in, count_in, users_in, day_in, stored}
-use Rattle.plain_day.specs.Lines.{Line, Entered, line_in, lines_in, line_calls, same_lengths, is_taken, plain_lines}
+use Rattle.plain_day.specs.Lines.{Line, Entered, line_in, lines_in, line_calls, same_lengths, plain_lines}
 use Rattle.plain_day.specs.Plain.{plain, given, plain_call}
 use Rattle.plain_day.proofs.Ranges.{up_to_le, laid_users}
 use Rattle.plain_day.proofs.Again.{again, head_laid, day_sized}

@@ -1,5 +1,4 @@
 -- `many_lines::hints_of` meets its contract. Assumes nothing.
-use Prim.Native.Nat.{◌-◌}
 use native.Mathlib.Omega.{arith}
 use Rattle.many_lines.proofs.hints_of.Goals as goal
 
