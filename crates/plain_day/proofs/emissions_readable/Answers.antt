@@ -1,5 +1,5 @@
 -- `plain_day::emissions_readable` meets its contract. Assumes nothing.
-use mathlib.Core.Path.{◌≡◌, sym, ◌∙◌}
+use mathlib.Core.Path.{◌≡◌, sym, ap, ◌∙◌}
 use mathlib.Core.Bool.{true, false}
 use lib.IntN.{nat_abs}
 use mir.Facts.{to_z-of_z}
@@ -19,4 +19,4 @@ unfolding emissions_readable
 returns c =
     let h : up_to LIMIT c.args.emission ≡ true = sym (rw (to_z-of_z c.ranges.emission) at c.up_to.ensures) ∙ not-false _ c.if-not-up_to.false-raw in
     let m : c.magnitude.result ≡ nat_abs c.args.emission = rw (to_z-of_z c.ranges.emission) at c.magnitude.ensures in
-    rw (h, ← m) (rw (to_z-of_z c.ranges.downstream) at c.up_to-2.ensures)
+    rw (h, ← m) (c.up_to-2.ensures ∙ ap (up_to c.magnitude.result) (to_z-of_z c.ranges.downstream))
