@@ -1,5 +1,8 @@
 -- Document 01, section "Refusals": the table, a call's tests, and the first that holds. Assumes nothing.
-use Rattle.std.specs.Prelude.{Bool, List, [], ◌∷◌, ℕ}
+use Rattle.std.specs.Prelude.{Bool, List, [], ◌∷◌, ◌≡◌, ℕ}
+use Rattle.std.specs.Prelude.{Result, Ok, Err}
+use Rattle.numbers.specs.declared.Refusal.{Refusal}
+use Rattle.numbers.specs.declared.Refusal.TheVariants.{WrongStage, OutOfRange, NotJoined, AlreadyJoined, AllJoined, AboveLimit, Unmeasured, NoUser, NetTooLow, NoPair, NegativeWeight, AmountTooLarge, Malformed, ShortBuffer, NoBasis}
 use Rattle.numbers.specs.Sums.{pick}
 
 -- ---- the table
@@ -84,3 +87,32 @@ pub data Verdict : Type 0 where
 unfoldable pub verdict : List Test → Verdict
 verdict [] = accept
 verdict (t ∷ ts) = pick t.holds (refuse t.number) (verdict ts)
+
+-- ---- the code's enum
+
+-- document 01's number of each case
+abbrev pub number_of : Refusal → ℕ
+number_of WrongStage = WRONG_STAGE
+number_of OutOfRange = OUT_OF_RANGE
+number_of NotJoined = NOT_JOINED
+number_of AlreadyJoined = ALREADY_JOINED
+number_of AllJoined = ALL_JOINED
+number_of AboveLimit = ABOVE_LIMIT
+number_of Unmeasured = UNMEASURED
+number_of NoUser = NO_USER
+number_of NetTooLow = NET_TOO_LOW
+number_of NoPair = NO_PAIR
+number_of NegativeWeight = NEGATIVE_WEIGHT
+number_of AmountTooLarge = AMOUNT_TOO_LARGE
+number_of Malformed = MALFORMED
+number_of ShortBuffer = SHORT_BUFFER
+number_of NoBasis = NO_BASIS
+
+-- what the conversion gives
+abbrev pub Numbers : Refusal → ℕ → Type 0
+Numbers r n = n ≡ number_of r
+
+-- 0, or document 01's number of the refusal
+abbrev pub status_of : {A : Type 0} → Result A Refusal → ℕ
+status_of (Ok _) = 0
+status_of (Err r) = number_of r

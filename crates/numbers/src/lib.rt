@@ -1,11 +1,71 @@
 // The nearest of a fraction, signed amounts and their sums, buckets of numbers, and the numbers of refusals.
 #![tactic(auto)]
 
+ghost use Rattle.numbers.specs.Refusals.{Numbers};
 ghost use Rattle.std.specs.Prelude.{◌≡◌, false, ℕ, ◌≤◌, ◌<◌, leb, eqb, pos, nat_abs, ◌+ℤ◌, ◌-ℤ◌, length, replicate};
 ghost use Rattle.numbers.specs.Sums.{atZ, totalZ};
 ghost use Rattle.numbers.specs.Amounts.{SAFE, Within, Between, Decides, is_negative, signed};
 ghost use Rattle.numbers.specs.Nearest.{nearest};
 ghost use Rattle.numbers.specs.Buckets.{BUCKETS};
+
+// ---- the table of document 01, section "Refusals"
+
+// A refusal; its number is document 01's.
+#[derive(Clone, Copy, Debug, PartialEq, Eq)]
+pub enum Refusal {
+    // "the stage doesn't take the call, or a stand-in finds a user joined"
+    WrongStage = 1,
+
+    // "a value or list outside its stated range"
+    OutOfRange = 2,
+
+    // "line for a user not joined"
+    NotJoined = 3,
+
+    // "user already joined"
+    AlreadyJoined = 4,
+
+    // "all 64 users joined"
+    AllJoined = 5,
+
+    // "point-day sum, or a computed consumption, above 1,000,000,000; Type 2 product above 10^12 Wh"
+    AboveLimit = 6,
+
+    // "allot or stand-in unmeasured"
+    Unmeasured = 7,
+
+    // "allot with no user"
+    NoUser = 8,
+
+    // "stand-in with net at most 100"
+    NetTooLow = 9,
+
+    // "no pair in fifteen rows"
+    NoPair = 10,
+
+    // "a weight is negative (revise outside tolerance, stand-in, reading split)"
+    NegativeWeight = 11,
+
+    // "a whole amount would pass 2,000,000,000 in size"
+    AmountTooLarge = 12,
+
+    // "day file malformed"
+    Malformed = 13,
+
+    // "lent buffer under five numbers a row (inventory) or one a day (reading split)"
+    ShortBuffer = 14,
+
+    // "no basis for an estimate"
+    NoBasis = 15,
+}
+
+impl From<Refusal> for u8 {
+    ghost from_gives = { Numbers };
+
+    fn from(refusal: Refusal) -> u8 {
+        refusal as u8
+    }
+}
 
 // ---- the table of document 01, section "Refusals"
 
@@ -55,6 +115,13 @@ pub const SHORT_BUFFER: u8 = 14;
 pub const NO_BASIS: u8 = 15;
 
 // ---- numbers
+
+// An array of one value. (A call, so that no proof above sees its elements one by one.)
+pub fn repeat<T: Copy, const N: usize>(x: T) -> [T; N]
+    ensures { result ≡ replicate N x }
+{
+    [x; N]
+}
 
 // The nearest of n / d, halves up. By quotient and remainder: nothing is doubled or added that could overflow.
 pub fn nearest(n: u64, d: u64) -> u64
@@ -137,10 +204,8 @@ pub fn sum_of(xs: &[i64]) -> i64
     ensures { result ≡ totalZ xs.now }
 {
     let mut s: i64 = 0;
-    let mut i = 0;
-    while i < xs.len() {
-        s = s + xs[i];
-        i += 1;
+    for x in xs {
+        s += x;
     }
     s
 }
@@ -149,15 +214,13 @@ pub fn sum_of(xs: &[i64]) -> i64
 pub fn all_between(xs: &[i64], from: usize, low: i64, high: i64) -> bool
     ensures { Decides result ((i : ℕ) → from ≤ i → i < length xs.now → Between low high (atZ xs.now i)) }
 {
-    let mut i = from;
-    while i < xs.len() {
+    for i in from..xs.len() {
         if xs[i] < low {
             return false;
         }
         if high < xs[i] {
             return false;
         }
-        i += 1;
     }
     true
 }
@@ -167,10 +230,8 @@ pub fn all_zero(xs: &[i64], from: usize) -> bool
     ensures { Decides result ((i : ℕ) → from ≤ i → i < length xs.now → Between (pos 0) (pos 0) (atZ xs.now i)) }
 {
     let mut bits: i64 = 0;
-    let mut i = from;
-    while i < xs.len() {
-        bits = bits | xs[i];
-        i += 1;
+    for i in from..xs.len() {
+        bits |= xs[i];
     }
     bits == 0
 }
@@ -184,5 +245,5 @@ pub const BUCKETS: usize = 1024;
 pub fn unmarked() -> [bool; BUCKETS]
     ensures { result ≡ replicate BUCKETS false }
 {
-    [false; BUCKETS]
+    repeat(false)
 }

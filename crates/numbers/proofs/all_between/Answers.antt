@@ -1,6 +1,5 @@
 -- `numbers::all_between` meets its contract: every amount passed so far lies in the range. Assumes nothing.
 use mathlib.Core.Path.{sym, ◌∙◌}
-use Prim.Native.Nat.{◌-◌}
 use native.Mathlib.Omega.{arith}
 use borrow.Author.Rules.{rules}
 use mir.Syntax.{w64}
