@@ -2,7 +2,7 @@
 #![tactic(auto)]
 
 ghost use Rattle.std.specs.Prelude.{◌≡◌, true, ◌≤◌, ◌<◌};
-ghost use Rattle.numbers.specs.Refusals.{OUT_OF_RANGE};
+ghost use Rattle.numbers.specs.Refusals.{status_of};
 ghost use Rattle.point_day.specs.Limits.{USERS};
 ghost use Rattle.point_day.specs.Calls.{join};
 ghost use Rattle.point_day.specs.Answers.{answer_of};
@@ -10,8 +10,9 @@ ghost use Rattle.point_day.specs.Struct.{outcome, called};
 ghost use Rattle.taken.specs.Tested.{Finds};
 ghost use Rattle.join.specs.Appended.{appended, Tested};
 
-use point_day::{Answer, Outcome, PointDay, USERS};
-use taken::StateTest;
+use numbers::Refusal;
+use point_day::{Accepted, Outcome, PointDay, USERS};
+use taken::State;
 
 // The user in the next slot.
 fn append(day: PointDay, user: u16) -> PointDay
@@ -28,42 +29,40 @@ fn append(day: PointDay, user: u16) -> PointDay
     }
 }
 
-// The tests of a join on a point-day, of which `state` is the test: 0, or the number of the refusal.
-pub fn join_test(state: StateTest, user: u16) -> u8
-    requires { state.taken ≡ true → state.count ≤ USERS }
-    ensures { Finds state (result ≡ OUT_OF_RANGE) (λ d. Tested user d result) }
+// The tests of a join on a taken point-day, of which `state` is the test.
+pub fn join_test(state: &State, user: u16) -> Result<(), Refusal>
+    requires { state.now.count ≤ USERS }
+    ensures { Finds state.now (λ d. Tested user d (status_of result)) }
 {
-    if !state.taken {
-        return numbers::OUT_OF_RANGE;
-    }
     let count = state.count;
     if state.allotted {
-        return numbers::WRONG_STAGE;
+        return Err(Refusal::WrongStage);
     }
     if user == 0 {
-        return numbers::OUT_OF_RANGE;
+        return Err(Refusal::OutOfRange);
     }
     if state::slot_of(&state.users, count, user) < count {
-        return numbers::ALREADY_JOINED;
+        return Err(Refusal::AlreadyJoined);
     }
     if USERS <= count {
-        return numbers::ALL_JOINED;
+        return Err(Refusal::AllJoined);
     }
-    0
+    Ok(())
+}
+
+// The tests of a join, that of the point-day first.
+fn tests(day: PointDay, user: u16) -> Result<(), Refusal>
+    ensures { Tested user day (status_of result) }
+{
+    join_test(&taken::test_day(day)?, user)
 }
 
 // Join: adds a user.
 pub fn join(day: PointDay, user: u16) -> Outcome
     ensures { outcome (answer_of result.answer) result.day ≡ called (join user) day }
 {
-    let state = taken::test_day(day);
-    let number = join_test(state, user);
-    if number != 0 {
-        return point_day::refuse(number, day);
-    }
-    let next = append(day, user);
-    Outcome {
-        answer: Answer::Done,
-        day: next,
+    match tests(day, user) {
+        Err(refusal) => point_day::refuse(refusal, day),
+        Ok(()) => point_day::accept(Accepted::Done, append(day, user)),
     }
 }

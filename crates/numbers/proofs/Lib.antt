@@ -3,6 +3,7 @@ pub mod Filled
 pub mod Lists
 pub mod Buckets
 pub mod Places
+pub mod Refusals
 pub mod Totals
 pub mod Bits
 pub mod Amounts

@@ -4,8 +4,11 @@
 ghost use Rattle.std.specs.Prelude.{◌≡◌, pos, replicate};
 ghost use Rattle.point_day.specs.Limits.{USERS, CELLS};
 ghost use Rattle.point_day.specs.Day.{fresh};
-ghost use Rattle.point_day.specs.Answers.{refused, answer_of};
+ghost use Rattle.numbers.specs.Refusals.{number_of};
+ghost use Rattle.point_day.specs.Answers.{refused, values_of, answer_of};
 ghost use Rattle.point_day.specs.Struct.{laid, outcome};
+
+use numbers::Refusal;
 
 // Limits of a point-day.
 pub const USERS: usize = 64;
@@ -65,16 +68,18 @@ pub struct StandInRows {
     pub amounts: [i64; PAIRS],
 }
 
-// What a call answers: refused with document 01's number, or the values that it names.
-#[derive(Clone, Copy)]
-pub enum Answer {
-    Refused(u8),
+// What an accepted call answers: the values that document 01 names.
+#[derive(Clone, Copy, Debug, PartialEq, Eq)]
+pub enum Accepted {
     Done,
     LossesAdded(u64),
     RowsLookedAt(usize),
     WithinTolerance(i64),
     RevisionAssigned(i64),
 }
+
+// What a call answers.
+pub type Answer = Result<Accepted, Refusal>;
 
 // A call's answer, and the point-day afterwards.
 #[derive(Clone, Copy)]
@@ -83,13 +88,23 @@ pub struct Outcome {
     pub day: PointDay,
 }
 
-// A refused call: the number, and the point-day as it was.
-pub fn refuse(number: u8, day: PointDay) -> Outcome
-    ensures { outcome (answer_of result.answer) result.day ≡ outcome (refused number) day }
+// A refused call: the refusal, and the point-day as it was.
+pub fn refuse(refusal: Refusal, day: PointDay) -> Outcome
+    ensures { outcome (answer_of result.answer) result.day ≡ outcome (refused (number_of refusal)) day }
 {
     Outcome {
-        answer: Answer::Refused(number),
-        day: day,
+        answer: Err(refusal),
+        day,
+    }
+}
+
+// An accepted call: its values, and the point-day afterwards.
+pub fn accept(accepted: Accepted, next: PointDay) -> Outcome
+    ensures { outcome (answer_of result.answer) result.day ≡ outcome (values_of accepted) next }
+{
+    Outcome {
+        answer: Ok(accepted),
+        day: next,
     }
 }
 

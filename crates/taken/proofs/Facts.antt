@@ -32,7 +32,7 @@ use Rattle.state.proofs.Cells.{zero_between, between_zero, between_sign, low_siz
 use Rattle.state.proofs.Totals.{kinds_long, offtake_is, whole_is, wholes_are}
 use Rattle.point_day.specs.Fields.{point_day}
 use Rattle.taken.specs.Tested.{Known, Finds, Wholes, any_large}
-use Rattle.taken.specs.declared.StateTest.{StateTest}
+use Rattle.taken.specs.declared.State.{State}
 use Rattle.point_day.specs.declared.Stage.{Stage}
 
 -- every amount in low .. high, and 0 from place n on
@@ -258,21 +258,14 @@ module _ (d : PointDay) (z : Sized d) (e : taken d ≡ true) where
 pub first_wholes : (f : ℕ → ℤ) (n : ℕ) (before : List ℤ) {xs : List ℤ} → xs ≡ table f n ++ drop n before → take n xs ≡ table f n
 first_wholes f n before e = ap (take n) e ∙ take_at (table f n) (drop n before) n (length_table f n)
 
--- the tests of a call, on a point-day that is not taken, and on one that is
-pub not_found : {s : StateTest} {Q : Type 0} {P : PointDay → Type 0} → s.taken ≡ false → Q → ((d : PointDay) → taken d ≡ false → P d) → Finds s Q P
-not_found n q f = record { none = λ e. q; of = λ d t. f d (sym t.is ∙ n) }
-
-pub found : {s : StateTest} {Q : Type 0} {P : PointDay → Type 0} → s.taken ≡ true → ((d : PointDay) → Known d s → P d) → Finds s Q P
-found y f = record { none = λ e. true≢false (sym y ∙ e); of = λ d t. f d (t.known y) }
-
 -- what is known of a taken point-day
-pub known_few : {d : PointDay} {s : StateTest} → Known d s → s.count ≤ USERS
+pub known_few : {d : PointDay} {s : State} → Known d s → s.count ≤ USERS
 known_few {d} k = omega (arith, (taken_facts d k.is_taken).few, k.count)
 
-pub known_measurement : {d : PointDay} {s : StateTest} → Known d s → measurement_right s.measurement ≡ true
+pub known_measurement : {d : PointDay} {s : State} → Known d s → measurement_right s.measurement ≡ true
 known_measurement {d} k = rw (← k.measurement) (taken_facts d k.is_taken).measurement
 
-pub known_sum : {d : PointDay} {s : StateTest} → Known d s → sum_right s.sum ≡ true
+pub known_sum : {d : PointDay} {s : State} → Known d s → sum_right s.sum ≡ true
 known_sum {d} k = ap sum_right k.sum ∙ (taken_facts d k.is_taken).sum
 
 -- the sum of the whole amounts of a taken point-day, as a number of 64 bits

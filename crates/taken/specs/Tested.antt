@@ -1,5 +1,5 @@
 -- What the test of a point-day finds. Assumes nothing. No exported contract leans on it.
-use Rattle.std.specs.Prelude.{Bool, true, false, not, List, ◌++◌, ◌≡◌, ℕ, ◌*◌, ◌≤◌, ◌<◌, ℤ, pos, nat_abs, ◌+ℤ◌, length, take, drop, get_or}
+use Rattle.std.specs.Prelude.{Result, Ok, Err, Bool, true, false, not, List, ◌++◌, ◌≡◌, ℕ, ◌*◌, ◌≤◌, ◌<◌, ℤ, pos, nat_abs, ◌+ℤ◌, length, take, drop, get_or}
 use Rattle.std.specs.Int.Signed.{le_z}
 use Rattle.numbers.specs.Sums.{sumZ, table, atZ}
 use Rattle.numbers.specs.Lists.{every, has, distinct}
@@ -10,11 +10,13 @@ use Rattle.point_day.specs.Struct.{Sized, read, taken}
 use Rattle.point_day.specs.declared.Measurement.{Measurement}
 use Rattle.point_day.specs.declared.PointDay.{PointDay}
 use Rattle.state.specs.Places.{From, LowSlot, SizedSlot, offtake_at, balance_at, whole_at}
-use Rattle.taken.specs.declared.StateTest.{StateTest}
+use Rattle.numbers.specs.declared.Refusal.{Refusal}
+use Rattle.numbers.specs.declared.Refusal.TheVariants.{OutOfRange}
+use Rattle.taken.specs.declared.State.{State}
 use Rattle.taken.specs.declared.Tally.{Tally}
 
 -- s is what the test of the taken point-day d found: all that d holds but its amounts, and its users' whole amounts with their sum
-pub record Known (d : PointDay) (s : StateTest) : Type 0 where
+pub record Known (d : PointDay) (s : State) : Type 0 where
   pub sized : Sized d
   pub is_taken : taken d ≡ true
   pub stage : d.stage ≡ s.stage
@@ -25,15 +27,14 @@ pub record Known (d : PointDay) (s : StateTest) : Type 0 where
   pub wholes : take d.count s.wholes ≡ table (whole_at d.consumption d.losses d.balance d.revision) d.count
   pub sum : s.sum ≡ all_whole (read d).users
 
--- s is the test of the point-day d
-pub record StateOf (d : PointDay) (s : StateTest) : Type 0 where
-  pub is : s.taken ≡ taken d
-  pub known : s.taken ≡ true → Known d s
+-- the test of the point-day d: what it found, or refusal 2 if d is not taken
+abbrev pub StateOf : PointDay → Result State Refusal → Type 0
+StateOf d (Ok s) = Known d s
+StateOf d (Err r) = (taken d ≡ false) × (r ≡ OutOfRange)
 
--- what the tests of a call find of a point-day of which s is the test: P of it; if it is not taken, Q
-pub record Finds (s : StateTest) (Q : Type 0) (P : PointDay → Type 0) : Type 0 where
-  pub none : s.taken ≡ false → Q
-  pub of : (d : PointDay) → StateOf d s → P d
+-- what the tests of a call find of a taken point-day of which s is the test: P of it
+abbrev pub Finds : State → (PointDay → Type 0) → Type 0
+Finds s P = (d : PointDay) → Known d s → P d
 
 -- there is a point-day of which P holds
 pub record Some (P : PointDay → Type 0) : Type 0 where

@@ -13,6 +13,7 @@ ghost use Rattle.point_day.specs.Fields.{point_day};
 ghost use Rattle.taken.specs.Tested.{StateOf, TestedParts, Found, Head, Ended, Offtakes, Balances, Entering, Allotted, added_at, any_large};
 ghost use Rattle.point_day.specs.declared.Stage.{Stage};
 
+use numbers::Refusal;
 use point_day::{AMOUNT, CELLS, KINDS, LIMIT, Measurement, PointDay, Stage, USERS};
 
 // The greatest sum, and the least and the greatest whole amount.
@@ -284,11 +285,9 @@ fn parts_test<'a>(
     entering_test(n, consumption, losses, balance, revision, wholes)
 }
 
-// What the test of a point-day finds: whether it is taken; if so, all that it holds but its amounts, and its users' whole amounts with their
-// sum.
+// A taken point-day: all that it holds but its amounts, and its users' whole amounts with their sum.
 #[derive(Clone, Copy)]
-pub struct StateTest {
-    pub taken: bool,
+pub struct State {
     pub stage: Stage,
     pub allotted: bool,
     pub measurement: Measurement,
@@ -296,24 +295,6 @@ pub struct StateTest {
     pub users: [u16; USERS],
     pub wholes: [i64; USERS],
     pub sum: i64,
-}
-
-// No point-day.
-pub fn untaken() -> StateTest
-    ensures { result.taken ≡ false }
-{
-    let users = point_day::no_users();
-    let wholes = point_day::no_amounts();
-    StateTest {
-        taken: false,
-        stage: Stage::Provisional,
-        allotted: false,
-        measurement: Measurement::Unmeasured,
-        count: 0,
-        users: users,
-        wholes: wholes,
-        sum: 0,
-    }
 }
 
 // The test of a point-day in parts: fields of a point-day by value, or parts of a longer list, whose lengths are told to the compiler.
@@ -327,7 +308,7 @@ pub fn test_state<'a>(
     losses: &'a [i64],
     balance: &'a [i64],
     revision: &'a [i64],
-) -> StateTest
+) -> Result<State, Refusal>
     requires { Lengths consumption.now losses.now balance.now revision.now }
     ensures { StateOf (point_day stage allotted measurement count users consumption.now losses.now balance.now revision.now) result }
 {
@@ -343,20 +324,22 @@ pub fn test_state<'a>(
         &revision[..USERS],
         &mut wholes,
     );
-    StateTest {
-        taken: tally.right,
-        stage: stage,
-        allotted: allotted,
-        measurement: measurement,
-        count: count,
-        users: users,
-        wholes: wholes,
-        sum: tally.sum,
+    if !tally.right {
+        return Err(Refusal::OutOfRange);
     }
+    Ok(State {
+        stage,
+        allotted,
+        measurement,
+        count,
+        users,
+        wholes,
+        sum: tally.sum,
+    })
 }
 
 // The test of a point-day by value.
-pub fn test_day(day: PointDay) -> StateTest
+pub fn test_day(day: PointDay) -> Result<State, Refusal>
     ensures { StateOf day result }
 {
     test_state(

@@ -1,18 +1,15 @@
 -- `join::join` meets its contract: what its tests find, it does. Assumes nothing.
-use mathlib.Core.Path.{ap, ◌∙◌}
+use mathlib.Core.Path.{refl, ap, ◌∙◌}
+use Rattle.numbers.proofs.Refusals.{refused_not_0}
 use Rattle.point_day.specs.Calls.{done}
 use Rattle.point_day.specs.Struct.{outcome}
-use Rattle.taken.proofs.Facts.{known_few}
 use Rattle.join.proofs.join.Goals as goal
 
-pub join_test-number-requires : goal.join_test-number-requires
-join_test-number-requires c = λ y. known_few (c.test_day-state.ensures.known y)
+pub returns-in-Err : goal.returns-in-Err
+returns-in-Err c = c.refuse.ensures ∙ c.in-Err.ensures.failed (refused_not_0 c.in-Err.refusal)
 
-pub returns-then-number-ne0 : goal.returns-then-number-ne0
-returns-then-number-ne0 c = c.refuse.ensures ∙ (c.join_test-number.ensures.of _ c.test_day-state.ensures).failed c.if-number-ne0.true
+pub append-requires : goal.append-requires
+append-requires c = (c.in-Ok.ensures.passed refl).room
 
-pub append-next-requires : goal.append-next-requires
-append-next-requires c = ((c.join_test-number.ensures.of _ c.test_day-state.ensures).passed c.if-number-ne0.false).room
-
-pub returns : goal.returns
-returns c = ap (outcome done) c.append-next.ensures ∙ ((c.join_test-number.ensures.of _ c.test_day-state.ensures).passed c.if-number-ne0.false).is
+pub returns-in-Ok : goal.returns-in-Ok
+returns-in-Ok c = c.accept.ensures ∙ ap (outcome done) c.append.ensures ∙ (c.in-Ok.ensures.passed refl).is

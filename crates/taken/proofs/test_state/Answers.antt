@@ -1,4 +1,5 @@
 -- `taken::test_state` meets its contract: the first elements are all. Assumes nothing.
+use mathlib.Core.Bool.{true, false}
 use mathlib.Core.Path.{◌≡◌, refl, sym, ◌∙◌}
 use native.Mathlib.Omega.{arith}
 use borrow.Author.Rules.{rules}
@@ -37,6 +38,17 @@ parts_test-tally-requires c =
       search rules,
     )
 
+pub returns-then-not-tally : goal.returns-then-not-tally
+returns-then-not-tally c =
+    let a = c.args in
+    let cs = take_all CELLS a.consumption.now (omega (arith, c.requires.consumption)) in
+    let ls = take_all CELLS a.losses.now (omega (arith, c.requires.losses)) in
+    let bs = take_all CELLS a.balance.now (omega (arith, c.requires.balance)) in
+    let rs = take_all USERS a.revision.now (omega (arith, c.requires.revision)) in
+    let T = rw (cs, ls, bs, rs) at (c.parts_test-tally.ensures a.stage) in
+    let n : c.parts_test-tally.result.right ≡ false = search rules in
+    (sym T.is ∙ n, refl)
+
 pub returns : goal.returns
 returns c =
     let a = c.args in
@@ -45,20 +57,17 @@ returns c =
     let bs = take_all CELLS a.balance.now (omega (arith, c.requires.balance)) in
     let rs = take_all USERS a.revision.now (omega (arith, c.requires.revision)) in
     let T = rw (cs, ls, bs, rs) at (c.parts_test-tally.ensures a.stage) in
+    let u : length a.users ≡ USERS = search rules in
+    let y : c.parts_test-tally.result.right ≡ true = search rules in
+    let t = sym T.is ∙ y in
     record {
-      is = T.is;
-      known = λ y.
-          let u : length a.users ≡ USERS = search rules in
-          let t = sym T.is ∙ y in
-          record {
-            sized = parts_sized a.stage u c.requires;
-            is_taken = t;
-            stage = refl;
-            allotted = refl;
-            measurement = refl;
-            count = refl;
-            users = refl;
-            wholes = first_wholes _ a.count _ (T.wholes y);
-            sum = sum_kept _ (parts_sized a.stage u c.requires) t (T.sum y);
-          };
+      sized = parts_sized a.stage u c.requires;
+      is_taken = t;
+      stage = refl;
+      allotted = refl;
+      measurement = refl;
+      count = refl;
+      users = refl;
+      wholes = first_wholes _ a.count _ (T.wholes y);
+      sum = sum_kept _ (parts_sized a.stage u c.requires) t (T.sum y);
     }
