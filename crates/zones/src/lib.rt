@@ -2,11 +2,10 @@
 #![tactic(auto)]
 
 ghost use Rattle.std.specs.Prelude.{◌≡◌};
-ghost use Rattle.calendar.specs.Answers as Answers;
-ghost use Rattle.zones.specs.Zones.{zone_call, province_call, answer_of};
+ghost use Rattle.calendar.specs.Answers.{answer_of};
+ghost use Rattle.zones.specs.Zones.{zone_call, province_call};
 
-use calendar::NumberAnswer;
-use numbers::OUT_OF_RANGE;
+use numbers::Refusal;
 
 // The most hundredths of a degree day of a zone.
 const MOST_HUNDREDTHS: u32 = 1000;
@@ -20,21 +19,15 @@ pub struct Province {
     pub zone: u32,
 }
 
-#[derive(Clone, Copy)]
-pub enum ProvinceAnswer {
-    Refused(u8),
-    ValueAndZone { value: u32, zone: u32 },
-}
-
 // The zone of a degree-day value, in hundredths.
 #[tactic(auto, unfolding(crate::specs::Zones::zone_call, crate::specs::Zones::zone_of, calendar::specs::Answers::tested))]
-pub fn zone_of(hundredths: u32) -> NumberAnswer
-    ensures { Answers.answer_of result ≡ zone_call hundredths }
+pub fn zone_of(hundredths: u32) -> Result<u64, Refusal>
+    ensures { answer_of result ≡ zone_call hundredths }
 {
     if MOST_HUNDREDTHS < hundredths {
-        return NumberAnswer::Refused(OUT_OF_RANGE);
+        return Err(Refusal::OutOfRange);
     }
-    NumberAnswer::Given(match hundredths {
+    Ok(match hundredths {
         ..170 => 1,
         170..240 => 2,
         240..=380 => 3,
@@ -96,12 +89,11 @@ const PROVINCES: [Province; 48] = [
 
 // The value and the zone of a province, numbered from 1.
 #[tactic(auto, unfolding(crate::specs::Zones::province_call, crate::specs::Zones::provinces, calendar::specs::Answers::tested))]
-pub fn province_of(number: u32) -> ProvinceAnswer
+pub fn province_of(number: u32) -> Result<Province, Refusal>
     ensures { answer_of result ≡ province_call number }
 {
     if number < 1 || LAST_PROVINCE < number {
-        return ProvinceAnswer::Refused(OUT_OF_RANGE);
+        return Err(Refusal::OutOfRange);
     }
-    let Province { mean, zone } = PROVINCES[number as usize - 1];
-    ProvinceAnswer::ValueAndZone { value: mean, zone }
+    Ok(PROVINCES[number as usize - 1])
 }
