@@ -1,9 +1,9 @@
 -- Document 01, "Refusals": what a call answers. Assumes nothing.
-use Rattle.std.specs.Prelude.{List, ℕ}
+use Rattle.std.specs.Prelude.{List, ℕ, Result, Ok, Err}
 pub use Rattle.numbers.specs.Refusals.{Test, ◌when◌, Verdict, refuse, accept}
 unfoldable pub use Rattle.numbers.specs.Refusals.{verdict}
-use Rattle.calendar.specs.declared.NumberAnswer.{NumberAnswer}
-use Rattle.calendar.specs.declared.NumberAnswer.TheVariants.{Refused, Given}
+use Rattle.numbers.specs.Refusals.{number_of}
+use Rattle.numbers.specs.declared.Refusal.{Refusal}
 
 -- the number of a refusal, or what the call gives
 pub data Answer (A : Type 0) : Type 0 where
@@ -20,7 +20,7 @@ unfoldable pub tested : {A : Type 0} → List Test → Answer A → Answer A
 unfolding verdict
 tested ts a = answered (verdict ts) a
 
--- what each case of an answer with one number stands for
-abbrev pub answer_of : NumberAnswer → Answer ℕ
-answer_of (Refused n) = refused n
-answer_of (Given v) = given v
+-- what the code's answer stands for
+abbrev pub answer_of : {A : Type 0} → Result A Refusal → Answer A
+answer_of (Ok a) = given a
+answer_of (Err r) = refused (number_of r)

@@ -3,12 +3,10 @@ use Rattle.std.specs.Prelude.{Bool, true, false, not, List, [], ◌∷◌, ◌�
 use Rattle.numbers.specs.Sums.{pick}
 use Rattle.numbers.specs.Lists.{either, has}
 use Rattle.numbers.specs.Refusals.{OUT_OF_RANGE}
-use Rattle.calendar.specs.Answers.{Answer, refused, given, ◌when◌, tested}
+use Rattle.calendar.specs.Answers.{Answer, given, ◌when◌, tested}
 use Rattle.calendar.specs.Days.{calendar_right}
 use Rattle.calendar.specs.declared.DayType.{DayType}
 use Rattle.calendar.specs.declared.DayType.TheVariants.{Working, Saturday, SundayOrHoliday}
-use Rattle.calendar.specs.declared.DayTypeAnswer.{DayTypeAnswer}
-use Rattle.calendar.specs.declared.DayTypeAnswer.TheVariants.{Refused, Is}
 
 -- the days of the week: day 0 is a Friday
 abbrev pub WEEK : ℕ
@@ -48,11 +46,6 @@ same_type SundayOrHoliday SundayOrHoliday = true
 -- the type of a gas day
 unfoldable pub type_call : ℕ → List ℕ → Answer DayType
 type_call d hs = tested ((OUT_OF_RANGE when not (calendar_right d hs)) ∷ []) (given (day_type hs d))
-
--- what each case of the answer stands for
-abbrev pub answer_of : DayTypeAnswer → Answer DayType
-answer_of (Refused n) = refused n
-answer_of (Is t) = given t
 
 -- 6 January 2016 is a Wednesday; 2 January a Saturday, and a holiday on it is no Saturday any more; 3 January a Sunday
 plain : day_type [] 5 ≡ Working

@@ -1,12 +1,14 @@
 // Gas days, holidays, and the types of days.
 #![tactic(auto)]
 
-ghost use Rattle.std.specs.Prelude.{◌≡◌, true};
+ghost use Rattle.std.specs.Prelude.{◌≡◌, true, false, IfOk, IfErr};
+ghost use Rattle.numbers.specs.declared.Refusal.TheVariants.{OutOfRange};
 ghost use Rattle.numbers.specs.Lists.{has, rising};
+ghost use Rattle.calendar.specs.Answers.{answer_of};
 ghost use Rattle.calendar.specs.Days.{is_gas_day, holidays_right, calendar_right};
-ghost use Rattle.calendar.specs.DayTypes.{day_type, is_working_type, same_type, type_call, answer_of};
+ghost use Rattle.calendar.specs.DayTypes.{day_type, is_working_type, type_call};
 
-use numbers::OUT_OF_RANGE;
+use numbers::Refusal;
 
 // 31 December 2099.
 pub const LAST_DAY: u32 = 30680;
@@ -20,24 +22,19 @@ const SATURDAY: u32 = 1;
 
 const SUNDAY: u32 = 2;
 
-#[derive(Clone, Copy)]
+#[derive(Clone, Copy, Debug, PartialEq, Eq)]
 pub enum DayType {
     Working,
     Saturday,
     SundayOrHoliday,
 }
 
-// What a call answers that gives one number.
+// A gas day and the holidays of its calendar, as stated.
 #[derive(Clone, Copy)]
-pub enum NumberAnswer {
-    Refused(u8),
-    Given(u64),
-}
-
-#[derive(Clone, Copy)]
-pub enum DayTypeAnswer {
-    Refused(u8),
-    Is(DayType),
+pub struct Calendar<'a> {
+    pub day: u32,
+    pub holidays: &'a [u32],
+    ghost right: { calendar_right day holidays.now ≡ true },
 }
 
 // Whether a number is that of a gas day.
@@ -52,117 +49,91 @@ fn are_rising(numbers: &[u32]) -> bool
     ensures { result ≡ rising numbers.now }
 {
     let mut rises = true;
-    let mut i = 0;
-    while i + 1 < numbers.len() {
-        rises = rises & (numbers[i] < numbers[i + 1]);
-        i += 1;
+    for i in 1..numbers.len() {
+        rises &= numbers[i - 1] < numbers[i];
     }
     rises
 }
 
 // Whether the holidays are as stated: not too many, rising, each a gas day. Rising numbers are gas days if the last one is.
+#[tactic(auto, unfolding(crate::specs::Days::holidays_right))]
 fn are_holidays(holidays: &[u32]) -> bool
     ensures { result ≡ holidays_right holidays.now }
 {
-    let count = holidays.len();
-    if MOST_HOLIDAYS < count {
+    if MOST_HOLIDAYS < holidays.len() || !are_rising(holidays) {
         return false;
     }
-    if !are_rising(holidays) {
-        return false;
+    match holidays.last() {
+        Some(&last) => is_gas_day(last),
+        None => true,
     }
-    if count == 0 {
-        return true;
-    }
-    is_gas_day(holidays[count - 1])
 }
 
 // Whether a gas day and holidays are as stated.
-pub fn is_calendar(day: u32, holidays: &[u32]) -> bool
+#[tactic(auto, unfolding(crate::specs::Days::calendar_right))]
+fn is_calendar(day: u32, holidays: &[u32]) -> bool
     ensures { result ≡ calendar_right day holidays.now }
 {
-    if !is_gas_day(day) {
-        return false;
-    }
-    are_holidays(holidays)
+    is_gas_day(day) && are_holidays(holidays)
 }
 
-// Whether the day is a holiday, by halving.
-fn is_holiday(day: u32, holidays: &[u32]) -> bool
-    requires { rising holidays.now ≡ true }
-    ensures { result ≡ has day holidays.now }
-{
-    let mut low = 0;
-    let mut high = holidays.len();
-    while low < high {
-        let middle = low + (high - low) / 2;
-        let holiday = holidays[middle];
-        if holiday == day {
-            return true;
-        }
-        if holiday < day {
-            low = middle + 1;
+impl<'a> Calendar<'a> {
+    // A gas day and holidays, refused if they are not as stated.
+    pub fn of(day: u32, holidays: &'a [u32]) -> Result<Calendar<'a>, Refusal>
+        ensures given { IfOk result (λ c. (c.day ≡ day) × (c.holidays.now ≡ holidays.now)) }
+        ensures refused { IfErr result (λ r. (r ≡ OutOfRange) × (calendar_right day holidays.now ≡ false)) }
+    {
+        if is_calendar(day, holidays) {
+            Ok(Calendar { day, holidays })
         } else {
-            high = middle;
+            Err(Refusal::OutOfRange)
         }
     }
-    false
+
+    // Whether a day is a holiday.
+    fn is_holiday(&self, day: u32) -> bool
+        ensures { result ≡ has day self.now.holidays.now }
+    {
+        self.holidays.binary_search(&day).is_ok()
+    }
+
+    // The type of a day.
+    #[tactic(auto, unfolding(crate::specs::DayTypes::day_type))]
+    pub fn type_of(&self, day: u32) -> DayType
+        ensures { result ≡ day_type self.now.holidays.now day }
+    {
+        let weekday = day % WEEK;
+        if weekday == SUNDAY || self.is_holiday(day) {
+            DayType::SundayOrHoliday
+        } else if weekday == SATURDAY {
+            DayType::Saturday
+        } else {
+            DayType::Working
+        }
+    }
+
+    // The type of the gas day.
+    pub fn day_type(&self) -> DayType
+        ensures { result ≡ day_type self.now.holidays.now self.now.day }
+    {
+        self.type_of(self.day)
+    }
 }
 
-// The type of a day.
-pub fn type_of_day(day: u32, holidays: &[u32]) -> DayType
-    requires { rising holidays.now ≡ true }
-    ensures { result ≡ day_type holidays.now day }
-{
-    let weekday = day % WEEK;
-    if weekday == SUNDAY {
-        return DayType::SundayOrHoliday;
-    }
-    if is_holiday(day, holidays) {
-        return DayType::SundayOrHoliday;
-    }
-    if weekday == SATURDAY {
-        return DayType::Saturday;
-    }
-    DayType::Working
-}
-
-// Whether a type is that of a working day.
-pub fn is_working(day_type: DayType) -> bool
-    ensures { result ≡ is_working_type day_type }
-{
-    match day_type {
-        DayType::Working => true,
-        DayType::Saturday => false,
-        DayType::SundayOrHoliday => false,
-    }
-}
-
-// Whether two types are the same.
-pub fn are_same(one: DayType, other: DayType) -> bool
-    ensures { result ≡ same_type one other }
-{
-    match one {
-        DayType::Working => is_working(other),
-        DayType::Saturday => match other {
-            DayType::Working => false,
-            DayType::Saturday => true,
-            DayType::SundayOrHoliday => false,
-        },
-        DayType::SundayOrHoliday => match other {
-            DayType::Working => false,
-            DayType::Saturday => false,
-            DayType::SundayOrHoliday => true,
-        },
+impl DayType {
+    // Whether it is that of a working day.
+    pub fn is_working(self) -> bool
+        ensures { result ≡ is_working_type self }
+    {
+        self == DayType::Working
     }
 }
 
 // The type of a gas day.
-pub fn day_type(day: u32, holidays: &[u32]) -> DayTypeAnswer
+#[tactic(auto, unfolding(crate::specs::DayTypes::type_call, crate::specs::Answers::tested))]
+pub fn day_type(day: u32, holidays: &[u32]) -> Result<DayType, Refusal>
     ensures { answer_of result ≡ type_call day holidays.now }
 {
-    if !is_calendar(day, holidays) {
-        return DayTypeAnswer::Refused(OUT_OF_RANGE);
-    }
-    DayTypeAnswer::Is(type_of_day(day, holidays))
+    let calendar = Calendar::of(day, holidays)?;
+    Ok(calendar.day_type())
 }
