@@ -3,7 +3,7 @@
 
 ghost use Rattle.std.specs.Prelude.{◌≡◌, not};
 ghost use Rattle.numbers.specs.Lists.{both};
-ghost use Rattle.numbers.specs.Refusals.{OUT_OF_RANGE};
+ghost use Rattle.numbers.specs.Refusals.{status_of};
 ghost use Rattle.point_day.specs.Day.{provisional};
 ghost use Rattle.point_day.specs.Calls.{measure};
 ghost use Rattle.point_day.specs.Answers.{answer_of};
@@ -13,8 +13,9 @@ ghost use Rattle.point_day.specs.Fields.{set_measurement};
 ghost use Rattle.taken.specs.Tested.{Finds};
 ghost use Rattle.measure.specs.Measuring.{Tested};
 
-use point_day::{Answer, Measurement, Outcome, PointDay, Stage};
-use taken::StateTest;
+use numbers::Refusal;
+use point_day::{Accepted, Measurement, Outcome, PointDay, Stage};
+use taken::State;
 
 // Whether the stage doesn't take a measurement: allotted, and not provisional.
 fn measured_for_good(allotted: bool, stage: Stage) -> bool
@@ -26,21 +27,18 @@ fn measured_for_good(allotted: bool, stage: Stage) -> bool
     false
 }
 
-// The tests of a measure on a point-day, of which `state` is the test: 0, or the number of the refusal.
-pub fn measure_test(state: StateTest, emission: u64, downstream: u64) -> u8
-    ensures { Finds state (result ≡ OUT_OF_RANGE) (λ d. Tested emission downstream d result) }
+// The tests of a measure on a taken point-day, of which `state` is the test.
+pub fn measure_test(state: &State, emission: u64, downstream: u64) -> Result<(), Refusal>
+    ensures { Finds state.now (λ d. Tested emission downstream d (status_of result)) }
 {
-    if !state.taken {
-        return numbers::OUT_OF_RANGE;
-    }
     let stage = state.stage;
     if measured_for_good(state.allotted, stage) {
-        return numbers::WRONG_STAGE;
+        return Err(Refusal::WrongStage);
     }
     if !state::emission_right(emission, downstream) {
-        return numbers::OUT_OF_RANGE;
+        return Err(Refusal::OutOfRange);
     }
-    0
+    Ok(())
 }
 
 fn remeasure(day: PointDay, emission: u64, downstream: u64) -> PointDay
@@ -52,18 +50,19 @@ fn remeasure(day: PointDay, emission: u64, downstream: u64) -> PointDay
     }
 }
 
+// The tests of a measure, that of the point-day first.
+fn tests(day: PointDay, emission: u64, downstream: u64) -> Result<(), Refusal>
+    ensures { Tested emission downstream day (status_of result) }
+{
+    measure_test(&taken::test_day(day)?, emission, downstream)
+}
+
 // Measure: emission and downstream emission; the latest counts.
 pub fn measure(day: PointDay, emission: u64, downstream: u64) -> Outcome
     ensures { outcome (answer_of result.answer) result.day ≡ called (measure emission downstream) day }
 {
-    let state = taken::test_day(day);
-    let number = measure_test(state, emission, downstream);
-    if number != 0 {
-        return point_day::refuse(number, day);
-    }
-    let next = remeasure(day, emission, downstream);
-    Outcome {
-        answer: Answer::Done,
-        day: next,
+    match tests(day, emission, downstream) {
+        Err(refusal) => point_day::refuse(refusal, day),
+        Ok(()) => point_day::accept(Accepted::Done, remeasure(day, emission, downstream)),
     }
 }

@@ -3,7 +3,7 @@
 
 ghost use Rattle.std.specs.Prelude.{◌≡◌, not};
 ghost use Rattle.numbers.specs.Lists.{either};
-ghost use Rattle.numbers.specs.Refusals.{OUT_OF_RANGE};
+ghost use Rattle.numbers.specs.Refusals.{status_of};
 ghost use Rattle.point_day.specs.Day.{last_stage, next};
 ghost use Rattle.point_day.specs.Calls.{start_final};
 ghost use Rattle.point_day.specs.Answers.{answer_of};
@@ -11,8 +11,9 @@ ghost use Rattle.point_day.specs.Struct.{outcome, called};
 ghost use Rattle.taken.specs.Tested.{Finds};
 ghost use Rattle.start_final.specs.Writes.{restarted, Tested};
 
-use point_day::{Answer, Outcome, PointDay, Stage};
-use taken::StateTest;
+use numbers::Refusal;
+use point_day::{Accepted, Outcome, PointDay, Stage};
+use taken::State;
 
 // Whether the stage is the last.
 fn is_last(stage: Stage) -> bool
@@ -46,18 +47,15 @@ fn cannot_start(allotted: bool, stage: Stage) -> bool
     true
 }
 
-// The tests of a start-final on a point-day, of which `state` is the test: 0, or the number of the refusal.
-pub fn start_final_test(state: StateTest) -> u8
-    ensures { Finds state (result ≡ OUT_OF_RANGE) (λ d. Tested d result) }
+// The tests of a start-final on a taken point-day, of which `state` is the test.
+pub fn start_final_test(state: &State) -> Result<(), Refusal>
+    ensures { Finds state.now (λ d. Tested d (status_of result)) }
 {
-    if !state.taken {
-        return numbers::OUT_OF_RANGE;
-    }
     let stage = state.stage;
     if cannot_start(state.allotted, stage) {
-        return numbers::WRONG_STAGE;
+        return Err(Refusal::WrongStage);
     }
-    0
+    Ok(())
 }
 
 // The next stage, entering: users and measurement stay, all else is zero.
@@ -81,18 +79,19 @@ fn restart(day: PointDay) -> PointDay
     }
 }
 
+// The tests of a start-final, that of the point-day first.
+fn tests(day: PointDay) -> Result<(), Refusal>
+    ensures { Tested day (status_of result) }
+{
+    start_final_test(&taken::test_day(day)?)
+}
+
 // Start-final: the next stage, entering.
 pub fn start_final(day: PointDay) -> Outcome
     ensures { outcome (answer_of result.answer) result.day ≡ called start_final day }
 {
-    let state = taken::test_day(day);
-    let number = start_final_test(state);
-    if number != 0 {
-        return point_day::refuse(number, day);
-    }
-    let next = restart(day);
-    Outcome {
-        answer: Answer::Done,
-        day: next,
+    match tests(day) {
+        Err(refusal) => point_day::refuse(refusal, day),
+        Ok(()) => point_day::accept(Accepted::Done, restart(day)),
     }
 }

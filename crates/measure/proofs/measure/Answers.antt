@@ -1,11 +1,12 @@
 -- `measure::measure` meets its contract: what its tests find, it does. Assumes nothing.
-use mathlib.Core.Path.{ap, ◌∙◌}
+use mathlib.Core.Path.{refl, ap, ◌∙◌}
+use Rattle.numbers.proofs.Refusals.{refused_not_0}
 use Rattle.point_day.specs.Calls.{done}
 use Rattle.point_day.specs.Struct.{outcome}
 use Rattle.measure.proofs.measure.Goals as goal
 
-pub returns-then-number-ne0 : goal.returns-then-number-ne0
-returns-then-number-ne0 c = c.refuse.ensures ∙ (c.measure_test-number.ensures.of _ c.test_day-state.ensures).failed c.if-number-ne0.true
+pub returns-in-Err : goal.returns-in-Err
+returns-in-Err c = c.refuse.ensures ∙ c.in-Err.ensures.failed (refused_not_0 c.in-Err.refusal)
 
-pub returns : goal.returns
-returns c = ap (outcome done) c.remeasure-next.ensures ∙ ((c.measure_test-number.ensures.of _ c.test_day-state.ensures).passed c.if-number-ne0.false).is
+pub returns-in-Ok : goal.returns-in-Ok
+returns-in-Ok c = c.accept.ensures ∙ ap (outcome done) c.remeasure.ensures ∙ (c.in-Ok.ensures.passed refl).is

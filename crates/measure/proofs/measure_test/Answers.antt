@@ -4,29 +4,21 @@ use mathlib.Core.Bool.{false, not}
 use borrow.Author.Tests.{not-true, not-false}
 use Rattle.numbers.specs.Lists.{both}
 use Rattle.point_day.specs.Day.{provisional}
-use Rattle.point_day.proofs.Called.{called_untaken}
-use Rattle.taken.proofs.Facts.{found, not_found}
 use Rattle.measure.proofs.Measures.{measure_1, measure_2, measure_done, fails, passes}
 use Rattle.measure.proofs.measure_test.Goals as goal
 
-pub returns-then-not-state : goal.returns-then-not-state
-returns-then-not-state c = not_found (not-true _ c.if-not-state.true) refl (λ d e. fails _ _ d 1 (called_untaken _ d e))
-
 pub returns-then-measured_for_good : goal.returns-then-measured_for_good
 returns-then-measured_for_good c =
-    found (not-false _ c.if-not-state.false)
     (λ d k. fails _ _ d 0 (measure_1 _ _ d k.sized k.is_taken (rw (k.allotted, k.stage) (sym c.measured_for_good.ensures ∙ c.if-measured_for_good.true))))
 
 pub returns-then-not-emission_right : goal.returns-then-not-emission_right
 returns-then-not-emission_right c =
-    found (not-false _ c.if-not-state.false)
     (λ d k.
     let o : both d.allotted (not (provisional d.stage)) ≡ false = rw (k.allotted, k.stage) (sym c.measured_for_good.ensures ∙ c.if-measured_for_good.false) in
     fails _ _ d 1 (measure_2 _ _ d k.sized k.is_taken o (sym c.emission_right.ensures ∙ not-true _ c.if-not-emission_right.true-raw)))
 
 pub returns : goal.returns
 returns c =
-    found (not-false _ c.if-not-state.false)
     (λ d k.
     let o : both d.allotted (not (provisional d.stage)) ≡ false = rw (k.allotted, k.stage) (sym c.measured_for_good.ensures ∙ c.if-measured_for_good.false) in
     let r = sym c.emission_right.ensures ∙ not-false _ c.if-not-emission_right.false-raw in
