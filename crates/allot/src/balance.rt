@@ -9,7 +9,7 @@ ghost use Rattle.allot.specs.Shared.{shares_of};
 ghost use Rattle.allot.specs.Slots.{balances_of, all_balances};
 
 use super::{shares, weights};
-use point_day::KINDS;
+use point_day::{KINDS, USERS};
 
 // Each user's share over its kinds, user after user; `ws` are the users' weights. Later cells stay.
 fn spread_all<'a>(
@@ -24,8 +24,7 @@ fn spread_all<'a>(
     requires ws_value { (ws.now ≡ weights all consumption.now losses.now (length shares.now)) × ((s : ℕ) → Within LIMIT (atZ shares.now s)) }
     ensures { cells.new ≡ balances_of all consumption.now losses.now shares.now (length shares.now) ++ drop (KINDS * length shares.now) cells.old }
 {
-    let mut s = 0;
-    while s < shares.len() {
+    for s in 0..shares.len() {
         let from = KINDS * s;
         let to = from + KINDS;
         shares::spread(
@@ -34,7 +33,6 @@ fn spread_all<'a>(
             ws[s],
             &mut cells[from..to],
         );
-        s += 1;
     }
 }
 
@@ -73,8 +71,8 @@ pub fn balance_cells<'a>(
     ensures shares_after { shares.new ≡ shares_of balance consumption.now losses.now users.now n ++ drop n shares.old }
     ensures cells_after { cells.new ≡ all_balances balance consumption.now losses.now users.now n ++ drop (KINDS * n) cells.old }
 {
-    let mut keys = columns::column();
-    let mut ws = columns::column();
+    let mut keys = numbers::repeat::<u64, USERS>(0);
+    let mut ws = numbers::repeat::<u64, USERS>(0);
     spread_balance(
         balance,
         consumption,

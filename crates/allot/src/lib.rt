@@ -95,7 +95,7 @@ pub fn allot(day: PointDay) -> Outcome
     ensures { outcome (answer_of result.answer) result.day ≡ called allot day }
 {
     let state = taken::test_day(day);
-    let mut cells = point_day::no_cells();
+    let mut cells = numbers::repeat::<i64, CELLS>(0);
     let number = allot_test(
         state,
         &day.consumption,

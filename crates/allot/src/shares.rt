@@ -10,7 +10,7 @@ ghost use Rattle.allot.specs.UserWeights.{CellsInRange, by_all_kinds, basis_weig
 ghost use Rattle.allot.specs.Shared.{shares_of};
 
 use super::weights;
-use point_day::KINDS;
+use point_day::{KINDS, USERS};
 
 // The shares of the balance of as many users as there is room for weights, which `ws` then holds; later shares stay. `keys` is scratch.
 // Answers whether the weights are of all kinds.
@@ -49,8 +49,8 @@ pub fn share_out<'a>(
     ensures value { result ≡ by_all_kinds consumption.now losses.now n }
     ensures shares_after { shares.new ≡ shares_of balance consumption.now losses.now users.now n ++ drop n shares.old }
 {
-    let mut keys = columns::column();
-    let mut ws = columns::column();
+    let mut keys = numbers::repeat::<u64, USERS>(0);
+    let mut ws = numbers::repeat::<u64, USERS>(0);
     share_by(
         balance,
         consumption,

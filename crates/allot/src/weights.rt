@@ -64,10 +64,8 @@ fn weights_by<'a>(all: bool, consumption: &'a [i64], losses: &'a [i64], ws: &mut
     requires { (length ws.old ≤ USERS) × CellsInRange consumption.now losses.now }
     ensures { ws.new ≡ weights all consumption.now losses.now (length ws.old) }
 {
-    let mut s = 0;
-    while s < ws.len() {
-        ws[s] = user_weight(all, consumption, losses, s);
-        s += 1;
+    for (s, w) in ws.iter_mut().enumerate() {
+        *w = user_weight(all, consumption, losses, s);
     }
 }
 

@@ -1,4 +1,4 @@
-use Prim.Native.Nat.{◌-◌, ◌≤◌}
+use Prim.Native.Nat.{◌≤◌}
 use lib.ListN.{length}
 use Rattle.numbers.proofs.Filled.{Filled}
 use Rattle.allot.specs.UserWeights.{weight_at}
@@ -6,6 +6,3 @@ use Rattle.allot.proofs.weights.weights_by.Given as goal
 
 abbrev pub invariant-loop-s : goal.invariant-loop-s
 invariant-loop-s l = (l.s ≤ length l.initial.ws) × Filled (weight_at l.all l.consumption l.losses) l.initial.ws l.s l.ws
-
-abbrev pub decreases-loop-s : goal.decreases-loop-s
-decreases-loop-s l = length l.initial.ws - l.s
