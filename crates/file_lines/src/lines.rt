@@ -1,6 +1,7 @@
 // A line and a user of a day file, entered into lent arrays.
 ghost use Rattle.std.specs.Prelude.{◌≡◌, ◌+◌, ◌≤◌, ◌<◌, eqb, length, set};
 ghost use Rattle.numbers.specs.Sums.{pick};
+ghost use Rattle.numbers.specs.Refusals.{status_of};
 ghost use Rattle.point_day.specs.Limits.{USERS, LIMIT};
 ghost use Rattle.line.specs.Cell.{line_losses, place, Limited};
 ghost use Rattle.state.specs.Places.{more};
@@ -9,17 +10,10 @@ ghost use Rattle.file_lines.specs.Pieces.{line_so_far, is_added, user_refusal};
 
 use day_file::{COEFFICIENT, CONSUMPTION, LINE};
 use line::cells;
-use line::cells::CellLine;
+use numbers::Refusal;
 use point_day::{CELLS, USERS};
 
-// What entering a line, a section or all sections comes to: the number of a refusal, or all consumption and losses so far.
-#[derive(Clone, Copy)]
-pub enum SoFar {
-    Refused(u8),
-    Offtake(u64),
-}
-
-// A line of the file, for the user of a slot.
+// A line of the file, for the user of a slot; all consumption and losses with it.
 pub fn enter_line(
     file: &[u8],
     at: usize,
@@ -28,7 +22,7 @@ pub fn enter_line(
     offtake: u64,
     consumption: &mut [i64; CELLS],
     losses: &mut [i64; CELLS],
-) -> SoFar
+) -> Result<u64, Refusal>
     requires { (at + LINE ≤ length file.now) × (slot < USERS) × (offtake ≤ LIMIT) × Limited consumption.old × Limited losses.old }
     ensures value { result ≡ line_so_far user (u8 file.now at) (u32 file.now (at + 1)) (u16 file.now (at + 5)) offtake }
     ensures consumption_after { consumption.new ≡ pick (is_added user (u8 file.now at) (u32 file.now (at + 1)) (u16 file.now (at + 5)) offtake)
@@ -40,9 +34,9 @@ pub fn enter_line(
     let amount = wire::read_u32(file, at + CONSUMPTION);
     let coefficient = wire::read_u16(file, at + COEFFICIENT);
     if !cells::line_right(user, kind, amount, coefficient) {
-        return SoFar::Refused(numbers::OUT_OF_RANGE);
+        return Err(Refusal::OutOfRange);
     }
-    match cells::line_cell(
+    let added = cells::line_cell(
         consumption,
         losses,
         slot,
@@ -50,27 +44,30 @@ pub fn enter_line(
         amount,
         coefficient,
         offtake,
-    ) {
-        CellLine::Refused(number) => SoFar::Refused(number),
-        CellLine::Added(added) => SoFar::Offtake(offtake + (amount + added)),
-    }
+    )?;
+    Ok(offtake + (amount + added))
 }
 
-// A user joins in a slot, if fewer than `limit` have joined; the number of the refusal, or 0.
-pub fn enter_user(users: &mut [u16; USERS], slot: usize, limit: usize, user: u16) -> u8
+// A user joins in a slot, if fewer than `limit` have joined.
+pub fn enter_user(
+    users: &mut [u16; USERS],
+    slot: usize,
+    limit: usize,
+    user: u16,
+) -> Result<(), Refusal>
     requires { (slot ≤ limit) × (limit ≤ USERS) }
-    ensures value { result ≡ user_refusal limit user slot users.old }
-    ensures users_after { users.new ≡ pick (eqb result 0) (set users.old slot user) users.old }
+    ensures value { status_of result ≡ user_refusal limit user slot users.old }
+    ensures users_after { users.new ≡ pick (eqb (status_of result) 0) (set users.old slot user) users.old }
 {
     if user == 0 {
-        return numbers::OUT_OF_RANGE;
+        return Err(Refusal::OutOfRange);
     }
     if state::slot_of(users, slot, user) < slot {
-        return numbers::ALREADY_JOINED;
+        return Err(Refusal::AlreadyJoined);
     }
     if limit <= slot {
-        return numbers::ALL_JOINED;
+        return Err(Refusal::AllJoined);
     }
     users[slot] = user;
-    0
+    Ok(())
 }
