@@ -80,7 +80,7 @@ fn is_calendar(day: u32, holidays: &[u32]) -> bool
 impl<'a> Calendar<'a> {
     // A gas day and holidays, refused if they are not as stated.
     pub fn of(day: u32, holidays: &'a [u32]) -> Result<Calendar<'a>, Refusal>
-        ensures given { IfOk result (λ c. (c.day ≡ day) × (c.holidays.now ≡ holidays.now)) }
+        ensures given { IfOk result (λ c. (c.day ≡ day) × (c.holidays.now ≡ holidays.now) × (calendar_right day holidays.now ≡ true)) }
         ensures refused { IfErr result (λ r. (r ≡ OutOfRange) × (calendar_right day holidays.now ≡ false)) }
     {
         if is_calendar(day, holidays) {

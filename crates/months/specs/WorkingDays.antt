@@ -4,13 +4,12 @@ use Rattle.std.specs.Int.Count.{ones_in}
 use Rattle.numbers.specs.Sums.{bit, sum}
 use Rattle.numbers.specs.Lists.{has}
 use Rattle.numbers.specs.Refusals.{OUT_OF_RANGE}
-use Rattle.calendar.specs.Answers.{Answer, refused, given, ◌when◌, tested}
+use Rattle.calendar.specs.Answers.{Answer, given, ◌when◌, tested}
 use Rattle.calendar.specs.Days.{calendar_right}
 use Rattle.calendar.specs.DayTypes.{day_type, is_working}
 use Rattle.months.specs.Months.{month_days, length_of, month_from, month_of}
 use Rattle.months.specs.declared.Month.{Month}
-use Rattle.months.specs.declared.MonthAnswer.{MonthAnswer}
-use Rattle.months.specs.declared.MonthAnswer.TheVariants.{Refused, Figures}
+use Rattle.months.specs.declared.MonthFigures.{MonthFigures}
 
 -- "The working days of a month are a mask, bit 0 for the first"
 unfoldable pub working_mask : List ℕ → Month → ℕ
@@ -27,24 +26,12 @@ N_lab hs m = ones_in MASK_BITS (working_mask hs m)
 unfoldable pub N_res : List ℕ → Month → ℕ
 N_res hs m = m.days - N_lab hs m
 
--- a month: its first day, its days, the mask of its working days, and N_lab
-pub record MonthFigures : Type 0 where
-  pub first : ℕ
-  pub days : ℕ
-  pub mask : ℕ
-  pub working : ℕ
-
--- the month of a gas day
+-- the month of a gas day: its first day, its days, the mask of its working days, and N_lab
 unfoldable pub month_call : ℕ → List ℕ → Answer MonthFigures
 month_call d hs =
     let m = month_of d in
     tested ((OUT_OF_RANGE when not (calendar_right d hs)) ∷ [])
     (given (record { first = m.first; days = m.days; mask = working_mask hs m; working = N_lab hs m }))
-
--- what each case of the answer stands for
-abbrev pub answer_of : MonthAnswer → Answer MonthFigures
-answer_of (Refused n) = refused n
-answer_of (Figures first days mask working) = given (record { first = first; days = days; mask = mask; working = working })
 
 -- June 2016 without holidays has 22 working days, the first three Wednesday to Friday
 june_2016 : working_mask [] (month_of 152) % 32 ≡ 7

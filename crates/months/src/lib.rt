@@ -1,15 +1,16 @@
 // Months, the month of a gas day, and the working days of a month.
 #![tactic(auto)]
 
-ghost use Rattle.std.specs.Prelude.{◌≡◌, true, ◌≤◌, ◌<◌};
+ghost use Rattle.std.specs.Prelude.{◌≡◌, ◌≤◌, ◌<◌};
 ghost use Rattle.numbers.specs.Sums.{bit};
-ghost use Rattle.numbers.specs.Lists.{rising};
+ghost use Rattle.calendar.specs.Answers.{answer_of};
 ghost use Rattle.calendar.specs.Days.{LAST_DAY};
 ghost use Rattle.calendar.specs.DayTypes.{is_working};
 ghost use Rattle.months.specs.Months.{FIRST_YEAR, MONTHS, month_days, length_of, month_of, last_year_days};
-ghost use Rattle.months.specs.WorkingDays.{MASK_BITS, working_mask, N_lab, month_call, answer_of};
+ghost use Rattle.months.specs.WorkingDays.{MASK_BITS, working_mask, N_lab, month_call};
 
-use numbers::OUT_OF_RANGE;
+use calendar::Calendar;
+use numbers::Refusal;
 
 // The year of day 0.
 const FIRST_YEAR: u32 = 2016;
@@ -29,15 +30,13 @@ pub struct Month {
     pub days: u32,
 }
 
+// A month: its first day, its days, its working days as a mask, and how many they are.
 #[derive(Clone, Copy)]
-pub enum MonthAnswer {
-    Refused(u8),
-    Figures {
-        first: u32,
-        days: u32,
-        mask: u32,
-        working: u32,
-    },
+pub struct MonthFigures {
+    pub first: u32,
+    pub days: u32,
+    pub mask: u32,
+    pub working: u32,
 }
 
 // The days of a month of a year, January being month 1.
@@ -93,47 +92,44 @@ pub fn days_last_year(month: Month) -> u32
 
 // 1 if the day is a working day, else 0.
 #[tactic(auto, unfolding(calendar::specs::DayTypes::is_working))]
-fn working_bit(day: u32, holidays: &[u32]) -> u32
-    requires { rising holidays.now ≡ true }
-    ensures { result ≡ bit (is_working holidays.now day) }
+fn working_bit(day: u32, calendar: &Calendar) -> u32
+    ensures { result ≡ bit (is_working calendar.now.holidays.now day) }
 {
-    u32::from(calendar::is_working(calendar::type_of_day(day, holidays)))
+    u32::from(calendar.type_of(day).is_working())
 }
 
 // The mask of the working days of a month, bit 0 for its first day.
-fn mask_of_month(month: Month, holidays: &[u32]) -> u32
-    requires { (rising holidays.now ≡ true) × (month.first ≤ LAST_DAY) × (month.days < MASK_BITS) }
-    ensures { result ≡ working_mask holidays.now month }
+fn mask_of_month(month: Month, calendar: &Calendar) -> u32
+    requires { (month.first ≤ LAST_DAY) × (month.days < MASK_BITS) }
+    ensures { result ≡ working_mask calendar.now.holidays.now month }
 {
     let mut mask = 0;
     for i in 0..month.days {
-        mask += working_bit(month.first + i, holidays) << i;
+        mask += working_bit(month.first + i, calendar) << i;
     }
     mask
 }
 
 // N_lab, the working days of a month.
-pub fn working_days(month: Month, holidays: &[u32]) -> u32
-    requires { (rising holidays.now ≡ true) × (month.first ≤ LAST_DAY) × (month.days < MASK_BITS) }
-    ensures { result ≡ N_lab holidays.now month }
+pub fn working_days(month: Month, calendar: &Calendar) -> u32
+    requires { (month.first ≤ LAST_DAY) × (month.days < MASK_BITS) }
+    ensures { result ≡ N_lab calendar.now.holidays.now month }
 {
-    mask_of_month(month, holidays).count_ones()
+    mask_of_month(month, calendar).count_ones()
 }
 
-// The month of a gas day: its first day, its days, its working days as a mask, and how many they are.
+// The figures of the month of a gas day.
 #[tactic(auto, unfolding(crate::specs::WorkingDays::month_call, calendar::specs::Answers::tested))]
-pub fn month_figures(day: u32, holidays: &[u32]) -> MonthAnswer
+pub fn month_figures(day: u32, holidays: &[u32]) -> Result<MonthFigures, Refusal>
     ensures { answer_of result ≡ month_call day holidays.now }
 {
-    if !calendar::is_calendar(day, holidays) {
-        return MonthAnswer::Refused(OUT_OF_RANGE);
-    }
-    let m = month_of_day(day);
-    let mask = mask_of_month(m, holidays);
-    MonthAnswer::Figures {
-        first: m.first,
-        days: m.days,
+    let calendar = Calendar::of(day, holidays)?;
+    let month = month_of_day(day);
+    let mask = mask_of_month(month, &calendar);
+    Ok(MonthFigures {
+        first: month.first,
+        days: month.days,
         mask,
         working: mask.count_ones(),
-    }
+    })
 }

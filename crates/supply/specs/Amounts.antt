@@ -1,10 +1,8 @@
 -- Document 01, "Consumption of a supply point": amounts that may be missing, contracted flows, and the limit of a computed consumption. Assumes nothing.
-use Rattle.std.specs.Prelude.{Bool, true, [], ◌∷◌, ℕ, leb, ltb}
+use Rattle.std.specs.Prelude.{Bool, true, [], ◌∷◌, ℕ, leb, ltb, Option, None, Some}
 use Rattle.numbers.specs.Lists.{both}
 use Rattle.numbers.specs.Refusals.{ABOVE_LIMIT}
 use Rattle.calendar.specs.Answers.{Answer, given, ◌when◌, tested}
-use Rattle.supply.specs.declared.Amount.{Amount}
-use Rattle.supply.specs.declared.Amount.TheVariants.{Missing, Known}
 use Rattle.supply.specs.declared.Flows.{Flows}
 
 -- "month consumption and flows run from 0 to 1,000,000,000", and so do readings and computed consumptions
@@ -15,9 +13,9 @@ abbrev pub in_limit : ℕ → Bool
 in_limit v = leb v LIMIT
 
 -- "each may be missing"
-abbrev pub amount_right : Amount → Bool
-amount_right Missing = true
-amount_right (Known v) = in_limit v
+abbrev pub amount_right : Option ℕ → Bool
+amount_right None = true
+amount_right (Some v) = in_limit v
 
 -- f_c and C_f are thousandths, 0 to 1,000; C_c is ten-thousandths, 0 to 30,000
 abbrev pub THOUSAND : ℕ

@@ -6,8 +6,7 @@ ghost use Rattle.calendar.specs.Answers.{answer_of};
 ghost use Rattle.supply.specs.Amounts.{THOUSAND, amount_right, flows_right, limited};
 ghost use Rattle.supply.specs.NewConsumer.{of_year, of_day, new_consumption};
 
-use calendar::NumberAnswer;
-use numbers::ABOVE_LIMIT;
+use numbers::Refusal;
 
 // 10^9 kWh: the most of a reading, a flow, a month's consumption and a computed consumption.
 pub const LIMIT: u64 = 1000000000;
@@ -18,47 +17,37 @@ pub const THOUSAND: u64 = 1000;
 // What a new consumer's yearly flow is divided by.
 const NEW_DAYS: u64 = 210;
 
-// An amount that may be missing.
-#[derive(Clone, Copy)]
-pub enum Amount {
-    Missing,
-    Known(u64),
-}
-
 #[derive(Clone, Copy, Debug, PartialEq, Eq)]
 pub enum Toll {
     Toll34,
     OtherToll,
 }
 
-// The contracted flows of a point: its toll, Q_a (a year), Q_d (a day) and f_c.
+// The contracted flows of a point: its toll, Q_a (a year), Q_d (a day), either of which may be missing, and f_c.
 #[derive(Clone, Copy)]
 pub struct Flows {
     pub toll: Toll,
-    pub yearly: Amount,
-    pub daily: Amount,
+    pub yearly: Option<u64>,
+    pub daily: Option<u64>,
     pub factor: u32,
 }
 
 // Whether an amount is in its range, or missing.
-pub fn is_amount(amount: Amount) -> bool
+pub fn is_amount(amount: Option<u64>) -> bool
     ensures { result ≡ amount_right amount }
 {
-    match amount {
-        Amount::Missing => true,
-        Amount::Known(v) => v <= LIMIT,
-    }
+    amount.is_none_or(|kwh| kwh <= LIMIT)
 }
 
 // A computed consumption, refused above the limit.
 #[tactic(auto, unfolding(crate::specs::Amounts::limited, calendar::specs::Answers::tested))]
-pub fn limited_to(kwh: u64) -> NumberAnswer
+pub fn limited_to(kwh: u64) -> Result<u64, Refusal>
     ensures { answer_of result ≡ limited kwh }
 {
     if LIMIT < kwh {
-        return NumberAnswer::Refused(ABOVE_LIMIT);
+        return Err(Refusal::AboveLimit);
     }
-    NumberAnswer::Given(kwh)
+    Ok(kwh)
 }
 
 // Whether the contracted flows are in their ranges.
@@ -70,28 +59,22 @@ pub fn are_flows(flows: Flows) -> bool
 }
 
 // A new consumer's daily consumption from the yearly flow.
-fn from_year(flow: Amount) -> Amount
+fn from_year(flow: Option<u64>) -> Option<u64>
     ensures { result ≡ of_year flow }
 {
-    match flow {
-        Amount::Missing => Amount::Missing,
-        Amount::Known(q) => Amount::Known(numbers::nearest(q, NEW_DAYS)),
-    }
+    Some(numbers::nearest(flow?, NEW_DAYS))
 }
 
 // The same from the daily flow.
-fn from_day(factor: u32, flow: Amount) -> Amount
+fn from_day(factor: u32, flow: Option<u64>) -> Option<u64>
     requires { (amount_right flow ≡ true) × (factor ≤ THOUSAND) }
     ensures { result ≡ of_day factor flow }
 {
-    match flow {
-        Amount::Missing => Amount::Missing,
-        Amount::Known(q) => Amount::Known(numbers::nearest(q * factor as u64, THOUSAND)),
-    }
+    Some(numbers::nearest(flow? * factor as u64, THOUSAND))
 }
 
 // A new consumer's consumption.
-pub fn new_consumption(flows: Flows) -> Amount
+pub fn new_consumption(flows: Flows) -> Option<u64>
     requires { flows_right flows ≡ true }
     ensures { result ≡ new_consumption flows }
 {

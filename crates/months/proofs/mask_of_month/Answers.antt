@@ -15,13 +15,13 @@ loop-i-init c = sum_none _
 pub overflow_add-mask : goal.overflow_add-mask
 overflow_add-mask c =
     let s = c.args in
-    let w : ℕ → Bool = λ k. is_working s.holidays.now (s.month.first + k) in
+    let w : ℕ → Bool = λ k. is_working s.calendar.now.holidays.now (s.month.first + k) in
     record { fits = more_fits w (omega arith) c.loop-i.invariant c.working_bit.ensures }
 
 pub loop-i-preserved : goal.loop-i-preserved
 loop-i-preserved c =
     let s = c.args in
-    let w : ℕ → Bool = λ k. is_working s.holidays.now (s.month.first + k) in
+    let w : ℕ → Bool = λ k. is_working s.calendar.now.holidays.now (s.month.first + k) in
     mask_more w (omega arith) c.loop-i.invariant c.working_bit.ensures
 
 pub returns : goal.returns

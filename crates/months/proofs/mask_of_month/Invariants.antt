@@ -5,4 +5,4 @@ use Rattle.months.proofs.Masks.{mask as mask-of}
 use Rattle.months.proofs.mask_of_month.Given as goal
 
 abbrev pub invariant-loop-i : goal.invariant-loop-i
-invariant-loop-i l = l.mask ≡ mask-of (λ k. is_working l.holidays (l.month.first + k)) l.i
+invariant-loop-i l = l.mask ≡ mask-of (λ k. is_working l.calendar.holidays.now (l.month.first + k)) l.i

@@ -7,4 +7,4 @@ use Rattle.months.proofs.working_days.Goals as goal
 pub returns : goal.returns
 returns c =
     let s = c.args in
-    ap ones c.mask_of_month.ensures ∙ counted s.holidays.now s.month c.requires.2
+    ap ones c.mask_of_month.ensures ∙ counted s.calendar.now.holidays.now s.month c.requires.1
