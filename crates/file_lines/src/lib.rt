@@ -38,8 +38,8 @@ fn enter_section(
     let lines = (section.size - USER) / LINE;
     let mut sum = offtake;
     for j in 0..lines {
-        let at = start + LINE * j;
-        sum = lines::enter_line(file, at, user, i, sum, consumption, losses)?;
+        let entry = lines::read_line(file, start + LINE * j, user);
+        sum = lines::enter_line(entry, i, sum, consumption, losses)?;
     }
     Ok(sum)
 }

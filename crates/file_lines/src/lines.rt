@@ -10,42 +10,43 @@ ghost use Rattle.file_lines.specs.Pieces.{line_so_far, is_added, user_refusal};
 
 use day_file::{COEFFICIENT, CONSUMPTION, LINE};
 use line::cells;
+use line::cells::LineEntry;
 use numbers::Refusal;
 use point_day::{CELLS, USERS};
 
-// A line of the file, for the user of a slot; all consumption and losses with it.
+// A user's line as it stands in the file from a place on.
+pub fn read_line(file: &[u8], at: usize, user: u16) -> LineEntry
+    requires { at + LINE ≤ length file.now }
+    ensures { result ≡ record { user = user; kind = u8 file.now at; consumption = u32 file.now (at + 1); coefficient = u16 file.now (at + 5) } }
+{
+    LineEntry {
+        user,
+        kind: file[at],
+        consumption: wire::read::<4>(file, at + CONSUMPTION),
+        coefficient: wire::read::<2>(file, at + COEFFICIENT),
+    }
+}
+
+// A line of the user of a slot; the answer is all consumption and losses with it.
 pub fn enter_line(
-    file: &[u8],
-    at: usize,
-    user: u16,
+    entry: LineEntry,
     slot: usize,
     offtake: u64,
     consumption: &mut [i64; CELLS],
     losses: &mut [i64; CELLS],
 ) -> Result<u64, Refusal>
-    requires { (at + LINE ≤ length file.now) × (slot < USERS) × (offtake ≤ LIMIT) × Limited consumption.old × Limited losses.old }
-    ensures value { result ≡ line_so_far user (u8 file.now at) (u32 file.now (at + 1)) (u16 file.now (at + 5)) offtake }
-    ensures consumption_after { consumption.new ≡ pick (is_added user (u8 file.now at) (u32 file.now (at + 1)) (u16 file.now (at + 5)) offtake)
-        (more (place slot (u8 file.now at)) (u32 file.now (at + 1)) consumption.old) consumption.old }
-    ensures losses_after { losses.new ≡ pick (is_added user (u8 file.now at) (u32 file.now (at + 1)) (u16 file.now (at + 5)) offtake)
-        (more (place slot (u8 file.now at)) (line_losses (u32 file.now (at + 1)) (u16 file.now (at + 5))) losses.old) losses.old }
+    requires { (slot < USERS) × (offtake ≤ LIMIT) × Limited consumption.old × Limited losses.old }
+    ensures value { result ≡ line_so_far entry.user entry.kind entry.consumption entry.coefficient offtake }
+    ensures consumption_after { consumption.new ≡ pick (is_added entry.user entry.kind entry.consumption entry.coefficient offtake)
+        (more (place slot entry.kind) entry.consumption consumption.old) consumption.old }
+    ensures losses_after { losses.new ≡ pick (is_added entry.user entry.kind entry.consumption entry.coefficient offtake)
+        (more (place slot entry.kind) (line_losses entry.consumption entry.coefficient) losses.old) losses.old }
 {
-    let kind = wire::read_u8(file, at) as u8;
-    let amount = wire::read_u32(file, at + CONSUMPTION);
-    let coefficient = wire::read_u16(file, at + COEFFICIENT);
-    if !cells::line_right(user, kind, amount, coefficient) {
+    if !entry.is_right() {
         return Err(Refusal::OutOfRange);
     }
-    let added = cells::line_cell(
-        consumption,
-        losses,
-        slot,
-        kind,
-        amount,
-        coefficient,
-        offtake,
-    )?;
-    Ok(offtake + (amount + added))
+    let added = cells::line_cell(consumption, losses, slot, entry, offtake)?;
+    Ok(offtake + (entry.consumption + added))
 }
 
 // A user joins in a slot, if fewer than `limit` have joined.
