@@ -1,12 +1,11 @@
 -- Document 01, "Degree days": those of one day. Assumes nothing.
-use Rattle.std.specs.Prelude.{Bool, not, [], ◌∷◌, ◌≡◌, refl, ℤ, pos, negsuc, ◌+ℤ◌, ◌-ℤ◌, ◌*ℤ◌}
+use Rattle.std.specs.Prelude.{Bool, not, [], ◌∷◌, ◌≡◌, refl, ℤ, pos, negsuc, ◌+ℤ◌, ◌-ℤ◌, ◌*ℤ◌, ℕ, Result, Ok, Err}
 use Rattle.std.specs.Int.Signed.{lt_z, le_z}
 use Rattle.numbers.specs.Sums.{pick}
 use Rattle.numbers.specs.Lists.{both}
-use Rattle.numbers.specs.Refusals.{OUT_OF_RANGE}
+use Rattle.numbers.specs.Refusals.{OUT_OF_RANGE, number_of}
+use Rattle.numbers.specs.declared.Refusal.{Refusal}
 use Rattle.calendar.specs.Answers.{Answer, refused, given, ◌when◌, tested}
-use Rattle.degree_days.specs.declared.DegreeDaysAnswer.{DegreeDaysAnswer}
-use Rattle.degree_days.specs.declared.DegreeDaysAnswer.TheVariants.{Refused, Fortieths}
 
 -- temperatures are in tenths of a degree, −500 to 600
 abbrev pub LOWEST : ℤ
@@ -40,10 +39,10 @@ unfoldable pub degree_days_call : ℤ → ℤ → Answer ℤ
 degree_days_call tmin tmax =
     tested ((OUT_OF_RANGE when not (temperatures_right tmin tmax)) ∷ []) (given (degree_days tmin tmax))
 
--- what each case of the answer stands for: fortieths of a degree are never negative
-abbrev pub answer_of : DegreeDaysAnswer → Answer ℤ
-answer_of (Refused n) = refused n
-answer_of (Fortieths n) = given (pos n)
+-- what the code's answer stands for: fortieths of a degree are never negative
+abbrev pub answer_of : Result ℕ Refusal → Answer ℤ
+answer_of (Ok n) = given (pos n)
+answer_of (Err r) = refused (number_of r)
 
 -- -0.1 to 0.1 degrees; the coldest and the warmest days
 about_zero : degree_days (negsuc 0) (pos 1) ≡ pos 600

@@ -5,7 +5,7 @@ ghost use Rattle.std.specs.Prelude.{◌≡◌, true, false, pos, ◌-ℤ◌};
 ghost use Rattle.std.specs.Int.Signed.{lt_z, le_z};
 ghost use Rattle.degree_days.specs.Degrees.{LOWEST, HIGHEST, BASE, temperatures_right, degree_days, degree_days_call, answer_of};
 
-use numbers::OUT_OF_RANGE;
+use numbers::Refusal;
 
 // Temperatures, in tenths of a degree.
 const LOWEST: i32 = -500;
@@ -14,12 +14,6 @@ const HIGHEST: i32 = 600;
 
 // 15 degrees.
 const BASE: i32 = 150;
-
-#[derive(Clone, Copy)]
-pub enum DegreeDaysAnswer {
-    Refused(u8),
-    Fortieths(u64),
-}
 
 // Whether a day's temperatures are in their range and in order.
 #[tactic(auto, using(std::proofs::lemmas::Int::ints), unfolding(crate::specs::Degrees::temperatures_right))]
@@ -49,13 +43,13 @@ fn fortieths(tmin: i32, tmax: i32) -> u32
     2 * cold - warm
 }
 
-// The degree days of a day with these lowest and highest temperatures.
+// The degree days of a day with these lowest and highest temperatures, in fortieths of a degree.
 #[tactic(auto, using(std::proofs::lemmas::Int::ints), unfolding(crate::specs::Degrees::degree_days_call, calendar::specs::Answers::tested))]
-pub fn degree_days(tmin: i32, tmax: i32) -> DegreeDaysAnswer
+pub fn degree_days(tmin: i32, tmax: i32) -> Result<u64, Refusal>
     ensures { answer_of result ≡ degree_days_call tmin tmax }
 {
     if !are_temperatures(tmin, tmax) {
-        return DegreeDaysAnswer::Refused(OUT_OF_RANGE);
+        return Err(Refusal::OutOfRange);
     }
-    DegreeDaysAnswer::Fortieths(fortieths(tmin, tmax) as u64)
+    Ok(fortieths(tmin, tmax) as u64)
 }

@@ -28,7 +28,7 @@ use Rattle.point_day.proofs.Steps.{for_nobody}
 use Rattle.point_day.proofs.Called.{called_refused, called_accepted, test_holds, test_passed, none_left}
 use Rattle.state.specs.Places.{Placed, more}
 use Rattle.taken.specs.Tested.{Known}
-use Rattle.taken.specs.declared.StateTest.{StateTest}
+use Rattle.taken.specs.declared.State.{State}
 use Rattle.taken.proofs.Facts.{sum_kept, entering_sum}
 use Rattle.line.specs.Lined.{with_cells, lined_at, Lines, Stands}
 use Rattle.line.specs.Cell.{line_losses, past_limit, place}
@@ -166,7 +166,7 @@ module _ (n kind c k : ℕ) (d : PointDay) (z : Sized d) (ok : taken d ≡ true)
 -- ---- the test of the state
 
 -- an entering point-day, as its test found it; the sum of its whole amounts as the code holds it
-pub stands : {d : PointDay} {s : StateTest} → Known d s → s.allotted ≡ false → Stands s.users s.count (nat_abs (to_z w64 (of_z w64 s.sum))) d
+pub stands : {d : PointDay} {s : State} → Known d s → s.allotted ≡ false → Stands s.users s.count (nat_abs (to_z w64 (of_z w64 s.sum))) d
 stands {d} k e =
     let a = k.allotted ∙ e in
     record {

@@ -1,13 +1,14 @@
 -- What a line writes into a point-day. Assumes nothing. No exported contract leans on it.
-use Rattle.std.specs.Prelude.{List, true, false, ◌≡◌, ℕ, ◌≤◌, ◌<◌, ℤ}
+use Rattle.std.specs.Prelude.{Result, Ok, Err, List, true, false, ◌≡◌, ℕ, ◌≤◌, ◌<◌, ℤ}
 use Rattle.numbers.specs.Sums.{pick}
 use Rattle.point_day.specs.Limits.{CELLS, LIMIT}
 use Rattle.point_day.specs.Fields.{set_consumption, set_losses}
 use Rattle.point_day.specs.Calls.{refused, losses_added, line}
 use Rattle.point_day.specs.Day.{all_offtake}
 use Rattle.point_day.specs.Struct.{Sized, read, taken, Outcome, outcome, called}
-use Rattle.line.specs.declared.LineTest.{LineTest}
-use Rattle.line.specs.declared.LineTest.TheVariants.{Refused, Passed}
+use Rattle.line.specs.declared.LineEffect.{LineEffect}
+use Rattle.numbers.specs.Refusals.{number_of}
+use Rattle.numbers.specs.declared.Refusal.{Refusal}
 use Rattle.point_day.specs.declared.PointDay.{PointDay}
 use Rattle.line.specs.Cell.{line_losses, past_limit, place}
 use Rattle.state.specs.Places.{more}
@@ -32,9 +33,9 @@ pub record Lines (n kind c k : ℕ) (d : PointDay) (i x : ℕ) : Type 0 where
   pub added : x ≤ LIMIT
 
 -- what the tests of a line find is what the call does
-abbrev pub Tested : ℕ → ℕ → ℕ → ℕ → PointDay → LineTest → Type 0
-Tested n kind c k d (Refused r) = outcome (refused r) d ≡ called (line n kind c k) d
-Tested n kind c k d (Passed i x) = Lines n kind c k d i x
+abbrev pub Tested : ℕ → ℕ → ℕ → ℕ → PointDay → Result LineEffect Refusal → Type 0
+Tested n kind c k d (Err r) = outcome (refused (number_of r)) d ≡ called (line n kind c k) d
+Tested n kind c k d (Ok e) = Lines n kind c k d e.place e.added
 
 -- a taken point-day that is entering, with these users, of which `count` have joined, and with so much consumption and losses in all
 pub record Stands (us : List ℕ) (count offtake : ℕ) (d : PointDay) : Type 0 where

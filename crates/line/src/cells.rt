@@ -6,64 +6,76 @@ ghost use Rattle.point_day.specs.Calls.{line_right};
 ghost use Rattle.line.specs.Cell.{line_losses, past_limit, line_on, place, Limited};
 ghost use Rattle.state.specs.Places.{more};
 
+use numbers::Refusal;
 use point_day::{CELLS, COEFFICIENT, KINDS, LIMIT, PARTS, USERS};
 
-// What a line at its cell comes to: the number of a refusal, or the losses that it added.
-#[derive(Clone, Copy)]
-pub enum CellLine {
-    Refused(u8),
-    Added(u64),
+// The arguments of a line: a user and a kind, their consumption in kWh, and the losses on it in hundred-thousandths.
+#[derive(Clone, Copy, Debug, PartialEq, Eq)]
+pub struct LineEntry {
+    pub user: u16,
+    pub kind: u8,
+    pub consumption: u64,
+    pub coefficient: u64,
 }
 
-// Whether a line's arguments are in their ranges.
-pub fn line_right(user: u16, kind: u8, consumption: u64, coefficient: u64) -> bool
-    ensures { result ≡ line_right user kind consumption coefficient }
-{
-    if user == 0 {
-        return false;
+impl LineEntry {
+    // Whether the arguments are in their ranges.
+    pub fn is_right(self) -> bool
+        ensures { result ≡ line_right self.user self.kind self.consumption self.coefficient }
+    {
+        if self.user == 0 {
+            return false;
+        }
+        if self.kind < 1 {
+            return false;
+        }
+        if KINDS < self.kind as usize {
+            return false;
+        }
+        if LIMIT < self.consumption {
+            return false;
+        }
+        self.coefficient <= COEFFICIENT
     }
-    if kind < 1 {
-        return false;
+
+    // The losses that the line adds.
+    pub fn losses(self) -> u64
+        requires { (self.consumption ≤ LIMIT) × (self.coefficient ≤ COEFFICIENT) }
+        ensures { (result ≡ line_losses self.consumption self.coefficient) × (result ≤ LIMIT) }
+    {
+        numbers::nearest(self.consumption * self.coefficient, PARTS)
     }
-    if KINDS < kind as usize {
-        return false;
+
+    // The cell of the line's kind, of the user of a slot.
+    pub fn place(self, slot: usize) -> usize
+        requires { (slot < USERS) × (1 ≤ self.kind) × (self.kind ≤ KINDS) }
+        ensures { (result ≡ place slot self.kind) × (result < CELLS) }
+    {
+        KINDS * slot + (self.kind as usize - 1)
     }
-    if LIMIT < consumption {
-        return false;
-    }
-    coefficient <= COEFFICIENT
 }
 
-// The losses that a line adds.
-pub fn line_losses(consumption: u64, coefficient: u64) -> u64
-    requires { (consumption ≤ LIMIT) × (coefficient ≤ COEFFICIENT) }
-    ensures { (result ≡ line_losses consumption coefficient) × (result ≤ LIMIT) }
-{
-    numbers::nearest(consumption * coefficient, PARTS)
-}
-
-// A line at the cell of a slot and kind, on lent arrays; `offtake` is all their consumption and losses so far.
+// A line at its cell of the user of a slot, on lent arrays; `offtake` is all their consumption and losses so far. The answer is the losses
+// that it added.
 pub fn line_cell(
     consumption: &mut [i64; CELLS],
     losses: &mut [i64; CELLS],
     slot: usize,
-    kind: u8,
-    amount: u64,
-    coefficient: u64,
+    entry: LineEntry,
     offtake: u64,
-) -> CellLine
-    requires slot_bound { (slot < USERS) × (1 ≤ kind) × (kind ≤ KINDS) × (amount ≤ LIMIT) × (coefficient ≤ COEFFICIENT) × (offtake ≤ LIMIT) }
+) -> Result<u64, Refusal>
+    requires slot_bound { (slot < USERS) × (1 ≤ entry.kind) × (entry.kind ≤ KINDS) × (entry.consumption ≤ LIMIT) × (entry.coefficient ≤ COEFFICIENT) × (offtake ≤ LIMIT) }
     requires limited { Limited consumption.old × Limited losses.old }
-    ensures value { result ≡ line_on offtake amount coefficient }
-    ensures consumption_after { consumption.new ≡ pick (past_limit offtake amount coefficient) consumption.old (more (place slot kind) amount consumption.old) }
-    ensures losses_after { losses.new ≡ pick (past_limit offtake amount coefficient) losses.old (more (place slot kind) (line_losses amount coefficient) losses.old) }
+    ensures value { result ≡ line_on offtake entry.consumption entry.coefficient }
+    ensures consumption_after { consumption.new ≡ pick (past_limit offtake entry.consumption entry.coefficient) consumption.old (more (place slot entry.kind) entry.consumption consumption.old) }
+    ensures losses_after { losses.new ≡ pick (past_limit offtake entry.consumption entry.coefficient) losses.old (more (place slot entry.kind) (line_losses entry.consumption entry.coefficient) losses.old) }
 {
-    let added = line_losses(amount, coefficient);
-    if LIMIT < offtake + (amount + added) {
-        return CellLine::Refused(numbers::ABOVE_LIMIT);
+    let added = entry.losses();
+    if LIMIT < offtake + (entry.consumption + added) {
+        return Err(Refusal::AboveLimit);
     }
-    let i = KINDS * slot + (kind as usize - 1);
-    state::add_at(consumption, i, amount);
+    let i = entry.place(slot);
+    state::add_at(consumption, i, entry.consumption);
     state::add_at(losses, i, added);
-    CellLine::Added(added)
+    Ok(added)
 }

@@ -1,18 +1,14 @@
 -- Values that stand in lists of numbers: an optional amount, a toll, a history. What has no meaning stands for a value out of its range, so that
 -- the call refuses it with 2. Assumes nothing.
-use Rattle.std.specs.Prelude.{List, [], ◌∷◌, ◌≡◌, refl, ℕ, ◌+◌, eqb, leb, length}
+use Rattle.std.specs.Prelude.{Option, None, Some, List, [], ◌∷◌, ◌≡◌, refl, ℕ, ◌+◌, eqb, leb, length}
 use Rattle.numbers.specs.Sums.{pick, table, at}
 use Rattle.numbers.specs.Lists.{every, rising}
 use Rattle.calendar.specs.Answers.{Answer, refused, given, verdict, tested}
 use Rattle.calendar.specs.Days.{calendar_right, holidays_right}
 use Rattle.supply.specs.Amounts.{LIMIT, THOUSAND, flows_right}
-use Rattle.supply.specs.declared.Amount.{Amount}
-use Rattle.supply.specs.declared.Amount.TheVariants.{Missing, Known}
 use Rattle.supply.specs.declared.Toll.{Toll}
 use Rattle.supply.specs.declared.Toll.TheVariants.{Toll34, OtherToll}
 use Rattle.supply.specs.declared.Flows.{Flows}
-use Rattle.telemetered.specs.declared.OwnValue.{OwnValue}
-use Rattle.telemetered.specs.declared.OwnValue.TheVariants.{NotSent, Sent}
 use Rattle.history.specs.History.{ENTRIES, history_right}
 use Rattle.telemetered.specs.Telemetered.{Estimate, values_right, telemetered}
 use Rattle.history.specs.declared.Reading.{Reading}
@@ -20,15 +16,10 @@ use Rattle.history.specs.declared.Reading.TheVariants.{Nothing, Real, Estimated,
 use Rattle.history.specs.declared.Entry.{Entry}
 
 -- an amount that may be missing: no number, or one; more are out of range
-abbrev pub amount_in : List ℕ → Amount
-amount_in [] = Missing
-amount_in (v ∷ []) = Known v
-amount_in (v ∷ w ∷ vs) = Known (LIMIT + 1)
-
--- the user's own value, if there is one
-abbrev pub own_of : Amount → OwnValue
-own_of Missing = NotSent
-own_of (Known v) = Sent v
+abbrev pub amount_in : List ℕ → Option ℕ
+amount_in [] = None
+amount_in (v ∷ []) = Some v
+amount_in (v ∷ w ∷ vs) = Some (LIMIT + 1)
 
 -- 0 another toll, 1 toll 3.4
 abbrev pub toll_in : ℕ → Toll
@@ -68,7 +59,7 @@ entry_count tags values = pick (eqb (length tags) (length values)) (length tags)
 -- an entry by tag 4; two numbers for a reading; a toll 2; a tag without a value
 abbrev flat : List ℕ → List ℕ → ℕ → List ℕ → List ℕ → Answer Estimate
 flat reading own toll tags values =
-    telemetered 10 [] (amount_in reading) (own_of (amount_in own)) (flows_in toll [] (700 ∷ []) 750) (entry_count tags values) (entries_in tags values)
+    telemetered 10 [] (amount_in reading) (amount_in own) (flows_in toll [] (700 ∷ []) 750) (entry_count tags values) (entries_in tags values)
 
 unknown_tag : flat [] [] 0 (4 ∷ []) (5 ∷ []) ≡ refused 2
 unfolding telemetered values_right tested verdict calendar_right holidays_right rising every flows_right history_right entries_in table reading_in

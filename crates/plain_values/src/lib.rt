@@ -3,32 +3,19 @@
 
 ghost use Rattle.std.specs.Prelude.{◌≡◌, ◌≤◌, length, take};
 ghost use Rattle.history.specs.History.{ENTRIES};
-ghost use Rattle.plain_values.specs.Lists.{amount_in, own_of, toll_in, factor_in, flows_in, reading_in, entries_in};
+ghost use Rattle.plain_values.specs.Lists.{amount_in, toll_in, factor_in, flows_in, reading_in, entries_in};
 
 use history::{ENTRIES, Entry, Reading};
-use supply::{Amount, Flows, LIMIT, THOUSAND, Toll};
-use telemetered::OwnValue;
+use supply::{Flows, LIMIT, THOUSAND, Toll};
 
 // An amount that may be missing.
-pub fn amount_in(list: &[u64]) -> Amount
+pub fn amount_in(list: &[u64]) -> Option<u64>
     ensures { result ≡ amount_in list.now }
 {
-    if list.len() == 0 {
-        return Amount::Missing;
-    }
-    if list.len() == 1 {
-        return Amount::Known(list[0]);
-    }
-    Amount::Known(LIMIT + 1)
-}
-
-// The user's own value, if there is one.
-pub fn own_of(amount: Amount) -> OwnValue
-    ensures { result ≡ own_of amount }
-{
-    match amount {
-        Amount::Missing => OwnValue::NotSent,
-        Amount::Known(value) => OwnValue::Sent(value),
+    match list {
+        [] => None,
+        [value] => Some(*value),
+        _ => Some(LIMIT + 1),
     }
 }
 
@@ -36,9 +23,10 @@ fn toll_in(number: u8) -> Toll
     ensures { result ≡ toll_in number }
 {
     if number == 1 {
-        return Toll::Toll34;
+        Toll::Toll34
+    } else {
+        Toll::OtherToll
     }
-    Toll::OtherToll
 }
 
 // f_c, out of its range by a toll's number that has no meaning.
@@ -46,9 +34,10 @@ fn factor_in(toll: u8, factor: u32) -> u32
     ensures { result ≡ factor_in toll factor }
 {
     if toll <= 1 {
-        return factor;
+        factor
+    } else {
+        THOUSAND as u32 + 1
     }
-    THOUSAND as u32 + 1
 }
 
 // Contracted flows.
@@ -85,26 +74,17 @@ fn reading_in(tag: u8, value: u64) -> Reading
     Reading::Own(value)
 }
 
-// A history without entries. (A call, so that no proof sees its entries one by one.)
-fn no_entries() -> [Entry; ENTRIES] {
-    [Entry {
-        reading: Reading::Nothing,
-    }; ENTRIES]
-}
-
 // The history that tags and values spell.
 pub fn history_in(tags: &[u8], values: &[u64]) -> [Entry; ENTRIES]
     requires { (length tags.now ≤ ENTRIES) × (length tags.now ≡ length values.now) }
     ensures { take (length tags.now) result ≡ entries_in tags.now values.now }
 {
-    let mut history = no_entries();
-    let mut i = 0;
-    while i < tags.len() {
-        let entry = Entry {
-            reading: reading_in(tags[i], values[i]),
-        };
-        history[i] = entry;
-        i += 1;
+    let mut history = numbers::repeat(Entry {
+        reading: Reading::Nothing,
+    });
+    for i in 0..tags.len() {
+        let reading = reading_in(tags[i], values[i]);
+        history[i] = Entry { reading };
     }
     history
 }

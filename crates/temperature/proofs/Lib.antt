@@ -1,3 +1,3 @@
 pub mod Chains
 pub mod Fractions
-pub mod Winters
+pub mod Means

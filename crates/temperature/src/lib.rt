@@ -1,9 +1,12 @@
 // Temperature coefficients as exact fractions, and the means of months and winters that they are made of.
 #![tactic(auto)]
 
-ghost use Rattle.std.specs.Prelude.{◌≡◌, true, ◌≤◌, length};
+ghost use Rattle.std.specs.Prelude.{◌≡◌, true, false, ◌≤◌, length, IfOk, IfErr};
+ghost use Rattle.numbers.specs.declared.Refusal.TheVariants.{OutOfRange};
 ghost use Rattle.numbers.specs.Lists.{every};
 ghost use Rattle.temperature.specs.Temperature.{MOST_DEGREES, correction, Sound, MonthMean, sum, divided, MOST_DAYS, is_degrees, mean, winters_mean, winter_right, winters_right};
+
+use numbers::Refusal;
 
 // What is added to degree days on both sides of a correction.
 const ADDED: u64 = 160;
@@ -81,27 +84,53 @@ fn is_winter(days: &[u32]) -> bool
     FEWEST_DAYS as usize <= days.len() && days.len() <= MOST_DAYS as usize && are_all_degrees(days)
 }
 
-// Whether one or two winters are as stated. The second is looked at if there are two.
+// One or two winters, as stated. (The second is looked at if there are two.)
+#[derive(Clone, Copy)]
+pub struct Winters<'a> {
+    pub count: u8,
+    pub first: &'a [u32],
+    pub second: &'a [u32],
+    ghost right: { winters_right count first.now second.now ≡ true },
+}
+
+// Whether one or two winters are as stated.
 #[tactic(auto, unfolding(crate::specs::Temperature::winters_right))]
-pub fn are_winters(winters: u8, first: &[u32], second: &[u32]) -> bool
-    ensures { result ≡ winters_right winters first.now second.now }
+fn are_winters(count: u8, first: &[u32], second: &[u32]) -> bool
+    ensures { result ≡ winters_right count first.now second.now }
 {
-    match winters {
+    match count {
         1 => is_winter(first),
         2 => is_winter(first) && is_winter(second),
         _ => false,
     }
 }
 
-// The average of the means of one or two winters.
-#[tactic(auto, using(crate::proofs::Winters::winter_means), unfolding(crate::specs::Temperature::winters_mean))]
-pub fn mean_of_winters(winters: u8, first: &[u32], second: &[u32]) -> Fraction
-    requires { winters_right winters first.now second.now ≡ true }
-    ensures { result ≡ winters_mean winters first.now second.now }
-{
-    if winters == 1 {
-        mean_of(first)
-    } else {
-        average_of(mean_of(first), mean_of(second))
+impl<'a> Winters<'a> {
+    // One or two winters, refused if they are not as stated.
+    pub fn of(count: u8, first: &'a [u32], second: &'a [u32]) -> Result<Winters<'a>, Refusal>
+        ensures given { IfOk result (λ w. (w.count ≡ count) × (w.first.now ≡ first.now) × (w.second.now ≡ second.now)) }
+        ensures refused { IfErr result (λ r. (r ≡ OutOfRange) × (winters_right count first.now second.now ≡ false)) }
+    {
+        if are_winters(count, first, second) {
+            Ok(Winters {
+                count,
+                first,
+                second,
+            })
+        } else {
+            Err(Refusal::OutOfRange)
+        }
+    }
+
+    // The average of their means.
+    #[tactic(auto, using(crate::proofs::Means::winter_means), unfolding(crate::specs::Temperature::winters_mean))]
+    pub fn mean(&self) -> Fraction
+        ensures { result ≡ winters_mean self.now.count self.now.first.now self.now.second.now }
+    {
+        if self.count == 1 {
+            mean_of(self.first)
+        } else {
+            average_of(mean_of(self.first), mean_of(self.second))
+        }
     }
 }

@@ -20,7 +20,7 @@ use Rattle.calendar.proofs.Holidays.{calendar_day, calendar_rising}
 use Rattle.months.proofs.Months.{month_length, month_holds}
 use Rattle.months.proofs.Masks.{some_working, some_other, working_all}
 use Rattle.temperature.specs.Temperature.{MOST_DAYS, MOST_DEGREES, is_degrees}
-use Rattle.temperature.proofs.Winters.{Month}
+use Rattle.temperature.proofs.Means.{Month}
 use Rattle.supply.specs.Amounts.{THOUSAND, MOST_C_c, amount_right}
 use Rattle.type_1.specs.Type1.{last_days_right, toll_34_right, sharing, other_right}
 use Rattle.supply.specs.declared.Amount.{Amount}

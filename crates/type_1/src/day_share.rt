@@ -6,19 +6,16 @@ ghost use Rattle.supply.specs.Amounts.{THOUSAND};
 ghost use Rattle.type_1.specs.MonthConsumption.{SmallBasis};
 ghost use Rattle.type_1.specs.DayShare.{day_of, part_of, MOST_DIVISOR};
 
-use crate::month_consumption::Basis;
-use calendar::NumberAnswer;
-use numbers::NO_BASIS;
+use numbers::Refusal;
 use supply::THOUSAND;
+use temperature::Fraction;
 
 // C_d: a part of C_m over a divisor, rounded once.
-pub fn day_of_month(basis: Basis, part: u64, divisor: u64) -> NumberAnswer
+pub fn day_of_month(basis: Option<Fraction>, part: u64, divisor: u64) -> Result<u64, Refusal>
     requires { SmallBasis basis × (part ≤ THOUSAND) × (1 ≤ divisor) × (divisor ≤ MOST_DIVISOR) }
     ensures { answer_of result ≡ day_of basis part divisor }
 {
-    let Basis::OfMonth(m) = basis else {
-        return NumberAnswer::Refused(NO_BASIS);
-    };
+    let m = basis.ok_or(Refusal::NoBasis)?;
     supply::limited_to(numbers::nearest(part * m.top, m.bottom * divisor))
 }
 

@@ -9,26 +9,45 @@ ghost use Rattle.numbers.specs.Lists.{both};
 ghost use Rattle.calendar.specs.Days.{LAST_DAY};
 ghost use Rattle.calendar.specs.Answers.{answer_of};
 ghost use Rattle.supply.specs.Amounts.{THOUSAND, MOST_C_c, amount_right};
-ghost use Rattle.type_1.specs.Type1.{last_days_right, toll_34_right, toll_34, other_right, other_toll};
+ghost use Rattle.type_1.specs.Type1.{last_days_right, toll_34_right, toll_34, other_toll};
 
-use calendar::NumberAnswer;
-use numbers::OUT_OF_RANGE;
-use supply::{Amount, THOUSAND};
+use calendar::Calendar;
+use numbers::Refusal;
+use supply::THOUSAND;
 
 // The most of C_c, in ten-thousandths.
 const MOST_C_C: u32 = 30000;
 
+// What is given for a point of toll 3.4: the gas day, the same month last year, the gas day's degree days and those of last year's month, the
+// last month, Q_a.
+#[derive(Clone, Copy)]
+pub struct Toll34<'a> {
+    pub day: u32,
+    pub last_year: Option<u64>,
+    pub g: u32,
+    pub last_days: &'a [u32],
+    pub last_month: Option<u64>,
+    pub year_flow: Option<u64>,
+}
+
+// What is given for a point of another toll: the gas day and the holidays, the same month last year, C_c, the last month, Q_d, f_c, C_f.
+#[derive(Clone, Copy)]
+pub struct OtherToll<'a> {
+    pub day: u32,
+    pub holidays: &'a [u32],
+    pub last_year: Option<u64>,
+    pub c_c: u32,
+    pub last_month: Option<u64>,
+    pub day_flow: Option<u64>,
+    pub f_c: u32,
+    pub c_f: u32,
+}
+
 // Whether three amounts are in their range, or missing.
-fn are_amounts(one: Amount, two: Amount, three: Amount) -> bool
+fn are_amounts(one: Option<u64>, two: Option<u64>, three: Option<u64>) -> bool
     ensures { result ≡ both (amount_right one) (both (amount_right two) (amount_right three)) }
 {
-    if !supply::is_amount(one) {
-        return false;
-    }
-    if !supply::is_amount(two) {
-        return false;
-    }
-    supply::is_amount(three)
+    supply::is_amount(one) && supply::is_amount(two) && supply::is_amount(three)
 }
 
 // Whether there are as many degree days as the same month a year earlier has days, each in its range.
@@ -37,115 +56,60 @@ fn are_last_days(day: u32, last_days: &[u32]) -> bool
     ensures { result ≡ last_days_right day last_days.now }
 {
     let month = months::month_of_day(day);
-    if last_days.len() != months::days_last_year(month) as usize {
-        return false;
-    }
-    temperature::are_all_degrees(last_days)
-}
-
-// Whether everything that is given for a point of toll 3.4 is in its range.
-fn is_toll_34(
-    day: u32,
-    last_year: Amount,
-    g: u32,
-    last_days: &[u32],
-    last_month: Amount,
-    year_flow: Amount,
-) -> bool
-    ensures { result ≡ toll_34_right day last_year g last_days.now last_month year_flow }
-{
-    if !calendar::is_gas_day(day) {
-        return false;
-    }
-    if !are_amounts(last_year, last_month, year_flow) {
-        return false;
-    }
-    if !temperature::are_degrees(g) {
-        return false;
-    }
-    are_last_days(day, last_days)
-}
-
-// The consumption of a Type 1 point of toll 3.4 on a gas day with g degree days.
-pub fn toll_34(
-    day: u32,
-    last_year: Amount,
-    g: u32,
-    last_days: &[u32],
-    last_month: Amount,
-    year_flow: Amount,
-) -> NumberAnswer
-    ensures { answer_of result ≡ toll_34 day last_year g last_days.now last_month year_flow }
-{
-    if !is_toll_34(day, last_year, g, last_days, last_month, year_flow) {
-        return NumberAnswer::Refused(OUT_OF_RANGE);
-    }
-    let mean = temperature::mean_of(last_days);
-    let correction = temperature::correction_of(g, mean);
-    let basis = month_consumption::month_of_34(last_year, correction, last_month, year_flow);
-    let month = months::month_of_day(day);
-    day_share::day_of_month(basis, 1, month.days as u64)
+    last_days.len() == months::days_last_year(month) as usize && temperature::are_all_degrees(last_days)
 }
 
 // Whether the coefficients of the other tolls are in their ranges.
 fn are_coefficients(c_c: u32, f_c: u32, c_f: u32) -> bool
     ensures { result ≡ both (leb c_c MOST_C_c) (both (leb f_c THOUSAND) (leb c_f THOUSAND)) }
 {
-    if MOST_C_C < c_c {
-        return false;
-    }
-    if THOUSAND < f_c as u64 {
-        return false;
-    }
-    c_f as u64 <= THOUSAND
+    c_c <= MOST_C_C && f_c as u64 <= THOUSAND && c_f as u64 <= THOUSAND
 }
 
-// Whether everything that is given for a point of another toll is in its range.
-fn is_other_toll(
-    day: u32,
-    holidays: &[u32],
-    last_year: Amount,
-    c_c: u32,
-    last_month: Amount,
-    day_flow: Amount,
-    f_c: u32,
-    c_f: u32,
-) -> bool
-    ensures { result ≡ other_right day holidays.now last_year c_c last_month day_flow f_c c_f }
+impl Toll34<'_> {
+    // Whether everything that is given is in its range.
+    fn is_right(self) -> bool
+        ensures { result ≡ toll_34_right self.day self.last_year self.g self.last_days.now self.last_month self.year_flow }
+    {
+        calendar::is_gas_day(self.day)
+            && are_amounts(self.last_year, self.last_month, self.year_flow)
+            && temperature::are_degrees(self.g)
+            && are_last_days(self.day, self.last_days)
+    }
+}
+
+// The consumption of a Type 1 point of toll 3.4 on a gas day with g degree days.
+pub fn toll_34(point: Toll34) -> Result<u64, Refusal>
+    ensures { answer_of result ≡ toll_34 point.day point.last_year point.g point.last_days.now point.last_month point.year_flow }
 {
-    if !calendar::is_calendar(day, holidays) {
-        return false;
+    if !point.is_right() {
+        return Err(Refusal::OutOfRange);
     }
-    if !are_amounts(last_year, last_month, day_flow) {
-        return false;
-    }
-    are_coefficients(c_c, f_c, c_f)
+    let mean = temperature::mean_of(point.last_days);
+    let correction = temperature::correction_of(point.g, mean);
+    let basis = month_consumption::month_of_34(
+        point.last_year, correction, point.last_month, point.year_flow,
+    );
+    let month = months::month_of_day(point.day);
+    day_share::day_of_month(basis, 1, month.days as u64)
 }
 
 // The consumption of a Type 1 point of another toll on a gas day.
-pub fn other_toll(
-    day: u32,
-    holidays: &[u32],
-    last_year: Amount,
-    c_c: u32,
-    last_month: Amount,
-    day_flow: Amount,
-    f_c: u32,
-    c_f: u32,
-) -> NumberAnswer
-    ensures { answer_of result ≡ other_toll day holidays.now last_year c_c last_month day_flow f_c c_f }
+pub fn other_toll(point: OtherToll) -> Result<u64, Refusal>
+    ensures { answer_of result ≡ other_toll point.day point.holidays.now point.last_year point.c_c point.last_month point.day_flow point.f_c point.c_f }
 {
-    if !is_other_toll(
-        day, holidays, last_year, c_c, last_month, day_flow, f_c, c_f,
-    ) {
-        return NumberAnswer::Refused(OUT_OF_RANGE);
+    let calendar = Calendar::of(point.day, point.holidays)?;
+    if !are_amounts(point.last_year, point.last_month, point.day_flow)
+        || !are_coefficients(point.c_c, point.f_c, point.c_f)
+    {
+        return Err(Refusal::OutOfRange);
     }
-    let month = months::month_of_day(day);
+    let month = months::month_of_day(point.day);
     let basis = month_consumption::month_of_other(
-        last_year, c_c, last_month, day_flow, f_c, month.days,
+        point.last_year, point.c_c, point.last_month, point.day_flow, point.f_c, month.days,
     );
-    let working = calendar::is_working(calendar::type_of_day(day, holidays));
-    let lab = months::working_days(month, holidays);
+    let working = calendar.day_type().is_working();
+    let lab = months::working_days(month, &calendar);
     let days = day_share::days_for(working, month.days, lab);
-    day_share::day_of_month(basis, day_share::part_for(working, c_f), THOUSAND * days)
+    day_share::day_of_month(basis, day_share::part_for(working, point.c_f), THOUSAND * days)
 }

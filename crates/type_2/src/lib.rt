@@ -3,11 +3,10 @@
 
 ghost use Rattle.std.specs.Prelude.{◌≡◌};
 ghost use Rattle.calendar.specs.Answers.{answer_of};
-ghost use Rattle.type_2.specs.Type2.{type_2_right, type_2, year_right, profile};
+ghost use Rattle.type_2.specs.Type2.{type_2, year_right, profile};
 
-use calendar::NumberAnswer;
-use numbers::{ABOVE_LIMIT, NO_BASIS, OUT_OF_RANGE};
-use temperature::{FEWEST_DAYS, MOST_DAYS};
+use numbers::Refusal;
+use temperature::{FEWEST_DAYS, MOST_DAYS, Winters};
 
 const MOST_CONSUMERS: u32 = 10000000;
 
@@ -22,29 +21,6 @@ const MOST_MONTH: u64 = 1000000000000;
 // The Wh of a kWh.
 const KILO: u64 = 1000;
 
-// Whether everything that is given for Type 2 consumers is in its range.
-fn is_type_2(
-    consumers: u32,
-    profile: u64,
-    g: u32,
-    winters: u8,
-    first: &[u32],
-    second: &[u32],
-) -> bool
-    ensures { result ≡ type_2_right consumers profile g winters first.now second.now }
-{
-    if MOST_CONSUMERS < consumers {
-        return false;
-    }
-    if MOST_PROFILE < profile {
-        return false;
-    }
-    if !temperature::are_degrees(g) {
-        return false;
-    }
-    temperature::are_winters(winters, first, second)
-}
-
 // The consumption of Type 2 consumers of one profile, on a gas day with g degree days, after one or two winters.
 pub fn type_2(
     consumers: u32,
@@ -53,51 +29,52 @@ pub fn type_2(
     winters: u8,
     first: &[u32],
     second: &[u32],
-) -> NumberAnswer
+) -> Result<u64, Refusal>
     ensures { answer_of result ≡ type_2 consumers profile g winters first.now second.now }
 {
-    if !is_type_2(consumers, profile, g, winters, first, second) {
-        return NumberAnswer::Refused(OUT_OF_RANGE);
+    let winters = Winters::of(winters, first, second)?;
+    if MOST_CONSUMERS < consumers || MOST_PROFILE < profile || !temperature::are_degrees(g) {
+        return Err(Refusal::OutOfRange);
     }
     let product = consumers as u64 * profile;
     if MOST_PRODUCT < product {
-        return NumberAnswer::Refused(ABOVE_LIMIT);
+        return Err(Refusal::AboveLimit);
     }
-    let mean = temperature::mean_of_winters(winters, first, second);
-    let correction = temperature::correction_of(g, mean);
+    let correction = temperature::correction_of(g, winters.mean());
     supply::limited_to(numbers::nearest(product * correction.top, correction.bottom * KILO))
 }
 
-// Whether one year's figures of a profile are in their ranges.
-fn is_year(consumption: u64, consumers: u32, days: u32) -> bool
-    ensures { result ≡ year_right consumption consumers days }
-{
-    if MOST_MONTH < consumption {
-        return false;
-    }
-    if MOST_CONSUMERS < consumers {
-        return false;
-    }
-    if days < FEWEST_DAYS {
-        return false;
-    }
-    days <= MOST_DAYS
+// One year's figures of a profile: a month's consumption, consumers and days.
+#[derive(Clone, Copy)]
+pub struct Year {
+    pub consumption: u64,
+    pub consumers: u32,
+    pub days: u32,
 }
 
-// The profile of a month: its consumption, consumers and days in two years.
-pub fn profile(f1: u64, f2: u64, nc1: u32, nc2: u32, n1: u32, n2: u32) -> NumberAnswer
-    ensures { answer_of result ≡ profile f1 f2 nc1 nc2 n1 n2 }
+impl Year {
+    // Whether the figures are in their ranges.
+    fn is_right(self) -> bool
+        ensures { result ≡ year_right self.consumption self.consumers self.days }
+    {
+        self.consumption <= MOST_MONTH
+            && self.consumers <= MOST_CONSUMERS
+            && FEWEST_DAYS <= self.days
+            && self.days <= MOST_DAYS
+    }
+}
+
+// The profile of a month, from its figures in two years.
+pub fn profile(one: Year, two: Year) -> Result<u64, Refusal>
+    ensures { answer_of result ≡ profile one.consumption two.consumption one.consumers two.consumers one.days two.days }
 {
-    if !is_year(f1, nc1, n1) {
-        return NumberAnswer::Refused(OUT_OF_RANGE);
+    if !one.is_right() || !two.is_right() {
+        return Err(Refusal::OutOfRange);
     }
-    if !is_year(f2, nc2, n2) {
-        return NumberAnswer::Refused(OUT_OF_RANGE);
-    }
-    let consumers = nc1 as u64 + nc2 as u64;
+    let consumers = one.consumers as u64 + two.consumers as u64;
     if consumers == 0 {
-        return NumberAnswer::Refused(NO_BASIS);
+        return Err(Refusal::NoBasis);
     }
-    let days = n1 as u64 + n2 as u64;
-    NumberAnswer::Given(numbers::nearest(KILO * (f1 + f2), consumers * days))
+    let days = one.days as u64 + two.days as u64;
+    Ok(numbers::nearest(KILO * (one.consumption + two.consumption), consumers * days))
 }

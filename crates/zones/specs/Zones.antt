@@ -3,10 +3,8 @@ use Rattle.std.specs.Prelude.{true, not, List, [], ◌∷◌, ◌≡◌, refl, �
 use Rattle.numbers.specs.Sums.{pick}
 use Rattle.numbers.specs.Lists.{both, every}
 use Rattle.numbers.specs.Refusals.{OUT_OF_RANGE}
-use Rattle.calendar.specs.Answers.{Answer, refused, given, ◌when◌, tested}
+use Rattle.calendar.specs.Answers.{Answer, given, ◌when◌, tested}
 use Rattle.zones.specs.declared.Province.{Province}
-use Rattle.zones.specs.declared.ProvinceAnswer.{ProvinceAnswer}
-use Rattle.zones.specs.declared.ProvinceAnswer.TheVariants.{Refused, ValueAndZone}
 
 -- "from hundredths of a degree day (0 to 1,000)"
 abbrev pub MOST_HUNDREDTHS : ℕ
@@ -94,8 +92,3 @@ unfoldable pub province_call : ℕ → Answer Province
 province_call n =
     tested ((OUT_OF_RANGE when not (both (leb 1 n) (leb n PROVINCES))) ∷ [])
     (given (get_or provinces (n - 1) (0 in_zone 0)))
-
--- what each case of the answer stands for
-abbrev pub answer_of : ProvinceAnswer → Answer Province
-answer_of (Refused n) = refused n
-answer_of (ValueAndZone v z) = given (v in_zone z)

@@ -2,11 +2,10 @@
 #![tactic(auto)]
 
 ghost use Rattle.std.specs.Prelude.{◌≡◌};
-ghost use Rattle.calendar.specs.Answers as Answers;
-ghost use Rattle.zones.specs.Zones.{zone_call, province_call, answer_of};
+ghost use Rattle.calendar.specs.Answers.{answer_of};
+ghost use Rattle.zones.specs.Zones.{zone_call, province_call};
 
-use calendar::NumberAnswer;
-use numbers::OUT_OF_RANGE;
+use numbers::Refusal;
 
 // The most hundredths of a degree day of a zone.
 const MOST_HUNDREDTHS: u32 = 1000;
@@ -20,29 +19,20 @@ pub struct Province {
     pub zone: u32,
 }
 
-#[derive(Clone, Copy)]
-pub enum ProvinceAnswer {
-    Refused(u8),
-    ValueAndZone { value: u32, zone: u32 },
-}
-
 // The zone of a degree-day value, in hundredths.
-pub fn zone_of(hundredths: u32) -> NumberAnswer
-    ensures { Answers.answer_of result ≡ zone_call hundredths }
+#[tactic(auto, unfolding(crate::specs::Zones::zone_call, crate::specs::Zones::zone_of, calendar::specs::Answers::tested))]
+pub fn zone_of(hundredths: u32) -> Result<u64, Refusal>
+    ensures { answer_of result ≡ zone_call hundredths }
 {
     if MOST_HUNDREDTHS < hundredths {
-        return NumberAnswer::Refused(OUT_OF_RANGE);
+        return Err(Refusal::OutOfRange);
     }
-    if hundredths < 170 {
-        return NumberAnswer::Given(1);
-    }
-    if hundredths < 240 {
-        return NumberAnswer::Given(2);
-    }
-    if hundredths <= 380 {
-        return NumberAnswer::Given(3);
-    }
-    NumberAnswer::Given(4)
+    Ok(match hundredths {
+        ..170 => 1,
+        170..240 => 2,
+        240..=380 => 3,
+        _ => 4,
+    })
 }
 
 // The provinces in the order of section 1.6 of PD-02.
@@ -98,19 +88,12 @@ const PROVINCES: [Province; 48] = [
 ];
 
 // The value and the zone of a province, numbered from 1.
-pub fn province_of(number: u32) -> ProvinceAnswer
+#[tactic(auto, unfolding(crate::specs::Zones::province_call, crate::specs::Zones::provinces, calendar::specs::Answers::tested))]
+pub fn province_of(number: u32) -> Result<Province, Refusal>
     ensures { answer_of result ≡ province_call number }
 {
-    if number < 1 {
-        return ProvinceAnswer::Refused(OUT_OF_RANGE);
+    if number < 1 || LAST_PROVINCE < number {
+        return Err(Refusal::OutOfRange);
     }
-    if LAST_PROVINCE < number {
-        return ProvinceAnswer::Refused(OUT_OF_RANGE);
-    }
-    let i = number as usize - 1;
-    let p = PROVINCES[i];
-    ProvinceAnswer::ValueAndZone {
-        value: p.mean,
-        zone: p.zone,
-    }
+    Ok(PROVINCES[number as usize - 1])
 }

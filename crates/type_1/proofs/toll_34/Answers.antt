@@ -12,7 +12,7 @@ use Rattle.supply.specs.declared.Amount.{Amount}
 use Rattle.calendar.specs.Answers.{tested}
 use Rattle.months.proofs.Months.{month_holds}
 use Rattle.temperature.specs.Temperature.{correction, C_temp1, Corrects}
-use Rattle.temperature.proofs.Winters.{mean_sound}
+use Rattle.temperature.proofs.Means.{mean_sound}
 use Rattle.temperature.proofs.Fractions.{corrects}
 use Rattle.type_1.proofs.Bases.{small_34}
 use Rattle.type_1.proofs.Tolls.{Right34, right_34}

@@ -9,7 +9,7 @@ use borrow.Author.Tests.{lt-ltb, le-ltb, not-true, not-false}
 use Rattle.numbers.specs.Nearest.{nearest}
 use Rattle.calendar.specs.Answers.{tested}
 use Rattle.temperature.specs.Temperature.{correction, C_temp2, Corrects}
-use Rattle.temperature.proofs.Winters.{winters_sound}
+use Rattle.temperature.proofs.Means.{winters_sound}
 use Rattle.temperature.proofs.Fractions.{corrects}
 use Rattle.supply.specs.Amounts.{limited}
 use Rattle.type_2.specs.Type2.{MOST_PRODUCT, KILO, type_2_right, type_2}
