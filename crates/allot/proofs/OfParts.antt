@@ -4,13 +4,13 @@ use mathlib.Core.List.{List}
 use lib.IntN.{ℤ}
 use Rattle.point_day.specs.Fields.{point_day, same_fields}
 use Rattle.point_day.specs.declared.PointDay.{PointDay}
-use Rattle.taken.specs.declared.StateTest.{StateTest}
+use Rattle.taken.specs.declared.State.{State}
 use Rattle.allot.specs.Allotted.{Has, Allottable}
 
-abbrev pub of_parts : StateTest → List ℤ → List ℤ → List ℤ → List ℤ → PointDay
+abbrev pub of_parts : State → List ℤ → List ℤ → List ℤ → List ℤ → PointDay
 of_parts s cs ls bs rs = point_day s.stage s.allotted s.measurement s.count s.users cs ls bs rs
 
-module _ {s : StateTest} {cs ls rs : List ℤ} {d : PointDay} where
+module _ {s : State} {cs ls rs : List ℤ} {d : PointDay} where
   pub is_of_parts : Has s cs ls rs d → d ≡ of_parts s cs ls d.balance rs
   is_of_parts h = same_fields (record {
     stage = h.known.stage;

@@ -1,14 +1,12 @@
 -- A point-day after allot, as arrays; what its tests find. Assumes nothing. No exported contract leans on it.
-use Rattle.std.specs.Prelude.{Bool, true, false, List, ◌≡◌, ℕ, ℤ, pos}
-use Rattle.point_day.specs.Limits.{CELLS}
-use Rattle.point_day.specs.Day.{is_measured, too_large}
+use Rattle.std.specs.Prelude.{true, false, List, ◌≡◌, ℕ, ℤ}
+use Rattle.point_day.specs.Day.{is_measured}
 use Rattle.point_day.specs.Fields.{set_allotted, set_balance}
-use Rattle.point_day.specs.Calls.{refused, done, day_balance, balanced, allot}
-use Rattle.point_day.specs.Struct.{read, padded, taken, outcome, called}
+use Rattle.point_day.specs.Calls.{refused, done, allot}
+use Rattle.point_day.specs.Struct.{taken, outcome, called}
 use Rattle.point_day.specs.declared.PointDay.{PointDay}
 use Rattle.taken.specs.Tested.{Known}
-use Rattle.taken.specs.declared.StateTest.{StateTest}
-use Rattle.allot.specs.Slots.{all_balances}
+use Rattle.taken.specs.declared.State.{State}
 
 -- the point-day allotted, with the balance cells bs
 abbrev pub with_balances : List ℤ → PointDay → PointDay
@@ -25,20 +23,15 @@ pub record Tested (bs : List ℤ) (d : PointDay) (r : ℕ) : Type 0 where
   pub failed : (r ≡ 0 → ⊥) → outcome (refused r) d ≡ called allot d
 
 -- a taken point-day with these cells and revisions, of which `state` is known
-pub record Has (state : StateTest) (cs ls rs : List ℤ) (d : PointDay) : Type 0 where
+pub record Has (state : State) (cs ls rs : List ℤ) (d : PointDay) : Type 0 where
   pub known : Known d state
   pub consumption : d.consumption ≡ cs
   pub losses : d.losses ≡ ls
   pub revision : d.revision ≡ rs
 
 -- the same, entering, measured, and with a user
-pub record Allottable (state : StateTest) (cs ls rs : List ℤ) (d : PointDay) : Type 0 where
+pub record Allottable (state : State) (cs ls rs : List ℤ) (d : PointDay) : Type 0 where
   pub has : Has state cs ls rs d
   pub entering : d.allotted ≡ false
   pub measured : is_measured d.measurement ≡ true
   pub users : d.count ≡ 0 → ⊥
-
--- the cells bs are the balances that allot lays on users and kinds; r, whether a whole amount is then too large
-pub record Balanced (bs : List ℤ) (d : PointDay) (r : Bool) : Type 0 where
-  pub cells : bs ≡ padded CELLS (pos 0) (all_balances (day_balance (read d)) d.consumption d.losses d.users d.count)
-  pub large : r ≡ too_large (balanced (read d))

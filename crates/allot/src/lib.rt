@@ -5,75 +5,70 @@ pub mod balance;
 pub mod shares;
 pub mod weights;
 
-ghost use Rattle.std.specs.Prelude.{◌≡◌, true, [], pos};
-ghost use Rattle.numbers.specs.Refusals.{OUT_OF_RANGE};
+ghost use Rattle.std.specs.Prelude.{◌≡◌, [], pos};
+ghost use Rattle.numbers.specs.Refusals.{status_of};
 ghost use Rattle.point_day.specs.Limits.{CELLS};
 ghost use Rattle.point_day.specs.Calls.{allot};
 ghost use Rattle.point_day.specs.Answers.{answer_of};
 ghost use Rattle.point_day.specs.Struct.{padded, outcome, called};
 ghost use Rattle.point_day.specs.declared.PointDay.{PointDay};
 ghost use Rattle.taken.specs.Tested.{Finds, Some};
-ghost use Rattle.allot.specs.Allotted.{with_balances, Tested, Has, Allottable, Balanced};
+ghost use Rattle.allot.specs.Allotted.{with_balances, Tested, Has, Allottable};
 
-use point_day::{Answer, CELLS, Outcome, PointDay};
-use taken::StateTest;
+use numbers::Refusal;
+use point_day::{Accepted, CELLS, Outcome, PointDay};
+use taken::State;
 use weights::Offtakes;
 
-// The balance of an entering point-day with these cells and revisions over its users and kinds, into cells of zeros; whether a whole amount
-// is then too large.
+// The balance of an entering point-day with these cells and revisions over its users and kinds, into cells of zeros; refused if a whole
+// amount is then too large.
 fn cells_test<'a>(
-    state: StateTest,
+    state: &State,
     consumption: &'a [i64],
     losses: &'a [i64],
     revision: &'a [i64],
     cells: &mut [i64],
-) -> bool
-    requires { Some (Allottable state consumption.now losses.now revision.now) × (cells.old ≡ padded CELLS (pos 0) []) }
-    ensures { (d : PointDay) → Allottable state consumption.now losses.now revision.now d → Balanced cells.new d result }
+) -> Result<(), Refusal>
+    requires { Some (Allottable state.now consumption.now losses.now revision.now) × (cells.old ≡ padded CELLS (pos 0) []) }
+    ensures { (d : PointDay) → Allottable state.now consumption.now losses.now revision.now d → Tested cells.new d (status_of result) }
 {
     let n = state.count;
-    let users = state.users;
     let mut shares = state.wholes;
-    let measurement = state.measurement;
-    let day_balance = numbers::minus(state::net(measurement) as i64, state.sum);
+    let day_balance = numbers::minus(state::net(state.measurement) as i64, state.sum);
     let offtakes = Offtakes {
         consumption: consumption,
         losses: losses,
     };
-    balance::balance_cells(day_balance, &offtakes, &users, n, &mut shares, cells);
+    balance::balance_cells(day_balance, &offtakes, &state.users, n, &mut shares, cells);
     state::whole_amounts(consumption, losses, cells, revision, n, &mut shares);
-    taken::wholes_too_large(&shares[..n])
+    if taken::wholes_too_large(&shares[..n]) {
+        return Err(Refusal::AmountTooLarge);
+    }
+    Ok(())
 }
 
-// The tests of allot on a point-day with these cells and revisions, of which `state` is the test: 0, or the number of the refusal. `cells`,
-// zeros before, are then the balances.
+// The tests of allot on a taken point-day with these cells and revisions, of which `state` is the test. `cells`, zeros before, are then
+// the balances.
 pub fn allot_test<'a>(
-    state: StateTest,
+    state: &State,
     consumption: &'a [i64],
     losses: &'a [i64],
     revision: &'a [i64],
     cells: &mut [i64],
-) -> u8
-    requires { (state.taken ≡ true → Some (Has state consumption.now losses.now revision.now)) × (cells.old ≡ padded CELLS (pos 0) []) }
-    ensures { Finds state (result ≡ OUT_OF_RANGE) (λ d. d.consumption ≡ consumption.now → d.losses ≡ losses.now → d.revision ≡ revision.now → Tested cells.new d result) }
+) -> Result<(), Refusal>
+    requires { Some (Has state.now consumption.now losses.now revision.now) × (cells.old ≡ padded CELLS (pos 0) []) }
+    ensures { Finds state.now (λ d. d.consumption ≡ consumption.now → d.losses ≡ losses.now → d.revision ≡ revision.now → Tested cells.new d (status_of result)) }
 {
-    if !state.taken {
-        return numbers::OUT_OF_RANGE;
-    }
     if state.allotted {
-        return numbers::WRONG_STAGE;
+        return Err(Refusal::WrongStage);
     }
-    let measurement = state.measurement;
-    if !state::is_measured(measurement) {
-        return numbers::UNMEASURED;
+    if !state::is_measured(state.measurement) {
+        return Err(Refusal::Unmeasured);
     }
     if state.count == 0 {
-        return numbers::NO_USER;
+        return Err(Refusal::NoUser);
     }
-    if cells_test(state, consumption, losses, revision, cells) {
-        return numbers::AMOUNT_TOO_LARGE;
-    }
-    0
+    cells_test(state, consumption, losses, revision, cells)
 }
 
 // The point-day allotted, with these balances.
@@ -87,25 +82,22 @@ fn put_balances(day: PointDay, balance: [i64; CELLS]) -> PointDay
     }
 }
 
+// The tests of an allot, that of the point-day first; `cells`, zeros before, are then the balances.
+fn tests(day: PointDay, cells: &mut [i64]) -> Result<(), Refusal>
+    requires { cells.old ≡ padded CELLS (pos 0) [] }
+    ensures { Tested cells.new day (status_of result) }
+{
+    let state = taken::test_day(day)?;
+    allot_test(&state, &day.consumption, &day.losses, &day.revision, cells)
+}
+
 // Allot: the balance over users and their kinds; the stage is then allotted.
 pub fn allot(day: PointDay) -> Outcome
     ensures { outcome (answer_of result.answer) result.day ≡ called allot day }
 {
-    let state = taken::test_day(day);
     let mut cells = numbers::repeat::<i64, CELLS>(0);
-    let number = allot_test(
-        state,
-        &day.consumption,
-        &day.losses,
-        &day.revision,
-        &mut cells,
-    );
-    if number != 0 {
-        return point_day::refuse(number, day);
-    }
-    let next = put_balances(day, cells);
-    Outcome {
-        answer: Answer::Done,
-        day: next,
+    match tests(day, &mut cells) {
+        Err(refusal) => point_day::refuse(refusal, day),
+        Ok(()) => point_day::accept(Accepted::Done, put_balances(day, cells)),
     }
 }

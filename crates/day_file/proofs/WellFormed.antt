@@ -12,8 +12,9 @@ use Rattle.numbers.specs.Lists.{both, every}
 use Rattle.numbers.proofs.Sums.{length_table, getD_table}
 use Rattle.numbers.proofs.Lists.{both_fst, both_snd}
 use Rattle.numbers.proofs.Places.{every_at}
-use Rattle.day_file.specs.declared.Decoded.{Decoded}
-use Rattle.day_file.specs.declared.Decoded.TheVariants.{DayFile, Malformed}
+use Rattle.std.specs.Prelude.{Result, Ok, Err}
+use Rattle.numbers.specs.declared.Refusal.{Refusal}
+use Rattle.numbers.specs.declared.Refusal.TheVariants.{Malformed}
 use Rattle.day_file.specs.declared.Header.{Header}
 use Rattle.day_file.specs.declared.Section.{Section}
 use Rattle.day_file.specs.Form.{MOST_BYTES, HEADER, USER, has_mark, header_of, pair_count, pairs_end, section_at, sections, end_of, is_whole, sorted, none_overlap, after_pairs, inside, sections_right, well_formed, decoded}
@@ -45,32 +46,27 @@ module _ (f : List ℕ) where
 -- ---- what the bytes are
 
 module _ (f : List ℕ) where
-  pub malformed : false ≡ well_formed f → Malformed ≡ decoded f
-  malformed e = ap (λ b. pick b (DayFile (header_of f)) Malformed) e
+  pub malformed : false ≡ well_formed f → Err Malformed ≡ decoded f
+  malformed e = ap (λ b. pick b (Ok (header_of f)) (Err Malformed)) e
 
-  pub day_file : well_formed f ≡ true → {h : Header} → h ≡ header_of f → DayFile h ≡ decoded f
-  day_file e q = ap DayFile q ∙ sym (ap (λ b. pick b (DayFile (header_of f)) Malformed) e)
+  pub day_file : well_formed f ≡ true → {h : Header} → h ≡ header_of f → Ok h ≡ decoded f
+  day_file e q = ap Ok q ∙ sym (ap (λ b. pick b (Ok (header_of f)) (Err Malformed)) e)
 
-  pub is_malformed : {d : Decoded} → d ≡ decoded f → d ≡ Malformed → well_formed f ≡ false
-  is_malformed p q = go (well_formed f) (sym p ∙ q)
+  -- a file that is refused
+  pub is_malformed : {r : Refusal} → Err r ≡ decoded f → (well_formed f ≡ false) × (r ≡ Malformed)
+  is_malformed {r} e = go (well_formed f) refl
     where
-      go : (b : Bool) → pick b (DayFile (header_of f)) Malformed ≡ Malformed → b ≡ false
-      go true e = absurd (let z : ◌≡◌ {A = ℕ} 0 1 = cc in omega arith)
-      go false e = refl
+      go : (b : Bool) → well_formed f ≡ b → (well_formed f ≡ false) × (r ≡ Malformed)
+      go true w = absurd (let z : Err r ≡ Ok (header_of f) = rw w at e in cc)
+      go false w = (w, let z : Err r ≡ Err Malformed = rw w at e in cc)
 
-  pub is_well_formed : {d : Decoded} {h : Header} → d ≡ decoded f → d ≡ DayFile h → well_formed f ≡ true
-  is_well_formed {h = h} p q = go (well_formed f) (sym p ∙ q)
+  -- a file with a header
+  pub is_well_formed : {h : Header} → Ok h ≡ decoded f → (well_formed f ≡ true) × (h ≡ header_of f)
+  is_well_formed {h} e = go (well_formed f) refl
     where
-      go : (b : Bool) → pick b (DayFile (header_of f)) Malformed ≡ DayFile h → b ≡ true
-      go true e = refl
-      go false e = absurd (let z : ◌≡◌ {A = ℕ} 0 1 = cc in omega arith)
-
-  pub has_header : {d : Decoded} {h : Header} → d ≡ decoded f → d ≡ DayFile h → h ≡ header_of f
-  has_header {h = h} p q = go (well_formed f) (sym p ∙ q)
-    where
-      go : (b : Bool) → pick b (DayFile (header_of f)) Malformed ≡ DayFile h → h ≡ header_of f
-      go true e = cc
-      go false e = absurd (let z : ◌≡◌ {A = ℕ} 0 1 = cc in omega arith)
+      go : (b : Bool) → well_formed f ≡ b → (well_formed f ≡ true) × (h ≡ header_of f)
+      go true w = (w, let z : Ok h ≡ Ok (header_of f) = rw w at e in cc)
+      go false w = absurd (let z : Ok h ≡ Err Malformed = rw w at e in cc)
 
 -- ---- what holds of a well-formed file
 

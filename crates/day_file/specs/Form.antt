@@ -1,12 +1,12 @@
 -- Document 01, section "Day file and inventory": what a day file is. Assumes nothing.
-use Rattle.std.specs.Prelude.{Bool, true, List, [], ◌∷◌, ℕ, ◌+◌, ◌-◌, ◌*◌, ◌/◌, ◌%◌, leb, eqb, length}
+use Rattle.std.specs.Prelude.{Bool, true, List, [], ◌∷◌, ℕ, ◌+◌, ◌-◌, ◌*◌, ◌/◌, ◌%◌, leb, eqb, length, Result, Ok, Err}
 use Rattle.numbers.specs.Sums.{table, at, pick}
 use Rattle.numbers.specs.Lists.{both, either, every}
+use Rattle.numbers.specs.declared.Refusal.{Refusal}
+use Rattle.numbers.specs.declared.Refusal.TheVariants.{Malformed}
 use Rattle.wire.specs.Bytes.{little_endian}
 use Rattle.day_file.specs.declared.Header.{Header}
 use Rattle.day_file.specs.declared.Section.{Section}
-use Rattle.day_file.specs.declared.Decoded.{Decoded}
-use Rattle.day_file.specs.declared.Decoded.TheVariants.{DayFile, Malformed}
 
 -- "At most 65,536 bytes"
 abbrev pub MOST_BYTES : ℕ
@@ -127,6 +127,6 @@ well_formed f =
     (both (leb HEADER (length f))
     (both (has_mark f) (both (leb (pairs_end f) (length f)) (sections_right f (sections f)))))
 
--- what the bytes are
-abbrev pub decoded : List ℕ → Decoded
-decoded f = pick (well_formed f) (DayFile (header_of f)) Malformed
+-- the header of a well-formed file
+abbrev pub decoded : List ℕ → Result Header Refusal
+decoded f = pick (well_formed f) (Ok (header_of f)) (Err Malformed)

@@ -3,7 +3,9 @@
 
 ghost use Rattle.std.specs.Prelude.{◌≡◌, ◌+◌, ◌-◌, ◌*◌, ◌%◌, ◌≤◌, ◌<◌, leb, eqb, length};
 ghost use Rattle.numbers.specs.Lists.{both};
-ghost use Rattle.day_file.specs.Form.{HEADER, PAIR, USER, LINE, has_mark, header_of, pair_count, pairs_start, pairs_end, section_from, sections, sections_right, decoded};
+ghost use Rattle.day_file.specs.Form.{HEADER, PAIR, USER, LINE, header_of, pair_count, pairs_start, pairs_end, section_from, sections, sections_right, decoded};
+
+use numbers::Refusal;
 
 // A day file has at most so many bytes.
 pub const MOST_BYTES: usize = 65536;
@@ -54,13 +56,6 @@ pub struct Header {
 pub struct Section {
     pub offset: usize,
     pub size: usize,
-}
-
-// What bytes are: a day file with its header, or none.
-#[derive(Clone, Copy)]
-pub enum Decoded {
-    DayFile(Header),
-    Malformed,
 }
 
 // Whether a section of this size is whole: a user, then lines.
@@ -115,18 +110,18 @@ fn are_sections(file: &[u8], pairs: usize, count: usize) -> bool
     true
 }
 
-// What the bytes are. Their form is tested, and their header read, here and nowhere else.
-pub fn decode(file: &[u8]) -> Decoded
+// The header of a day file. Its form is tested, and its header read, here and nowhere else.
+pub fn decode(file: &[u8]) -> Result<Header, Refusal>
     ensures { result ≡ decoded file.now }
 {
     if MOST_BYTES < file.len() || file.len() < HEADER || !file.starts_with(&MARK) {
-        return Decoded::Malformed;
+        return Err(Refusal::Malformed);
     }
     let header = read_header(file);
     if file.len() < header.pairs + PAIR * header.sections
         || !are_sections(file, header.pairs, header.sections)
     {
-        return Decoded::Malformed;
+        return Err(Refusal::Malformed);
     }
-    Decoded::DayFile(header)
+    Ok(header)
 }

@@ -9,8 +9,6 @@ use Rattle.day_file.specs.Form.{well_formed}
 use Rattle.day_file.specs.Report.{Report, refused as file_refused, allotted, report}
 use Rattle.day_file.specs.Text.{text}
 use Rattle.report.specs.Room.{REPORT_ROOM}
-use Rattle.day_report.specs.declared.ReportAnswer.{ReportAnswer}
-use Rattle.day_report.specs.declared.ReportAnswer.TheVariants.{Refused, Written}
 
 -- the text of a report that goes into a buffer of so many bytes
 abbrev pub text_for : ℕ → Report → Answer (List ℕ)
@@ -30,11 +28,6 @@ buffer_after (given t) out = written out 0 t
 abbrev pub size_of : Answer (List ℕ) → Answer ℕ
 size_of (refused n) = refused n
 size_of (given t) = given (length t)
-
--- what each case of the answer stands for
-abbrev pub answer_of : ReportAnswer → Answer ℕ
-answer_of (Refused n) = refused n
-answer_of (Written n) = given n
 
 -- ---- cases
 

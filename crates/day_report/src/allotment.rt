@@ -3,18 +3,18 @@ ghost use Rattle.std.specs.Prelude.{◌≡◌, true, ◌∷◌, [], ◌≤◌, l
 ghost use Rattle.point_day.specs.Day.{emission_right};
 ghost use Rattle.point_day.specs.declared.Measurement.TheVariants.{Measured};
 ghost use Rattle.calendar.specs.Days.{LAST_DAY};
+ghost use Rattle.calendar.specs.Answers.{answer_of};
 ghost use Rattle.day_book.specs.Run.{allot};
 ghost use Rattle.day_file.specs.Form.{header_of, well_formed};
 ghost use Rattle.day_file.specs.Report.{in_order};
 ghost use Rattle.file_lines.specs.Entering.{entering, Entered};
 ghost use Rattle.day_report.specs.Entered.{entered_and_allotted};
-ghost use Rattle.day_report.specs.Answered.{text_for, buffer_after, size_of, answer_of};
+ghost use Rattle.day_report.specs.Answered.{text_for, buffer_after, size_of};
 
-use super::{REPORT_ROOM, ReportAnswer};
+use super::REPORT_ROOM;
 use allot::shares;
 use day_file::Header;
-use file_lines::lines::SoFar;
-use numbers::{NO_USER, SHORT_BUFFER};
+use numbers::Refusal;
 use point_day::{CELLS, USERS};
 
 // Allots a point-day that is entered, whose consumption and losses are `offtake`, and writes its report. The report needs no more than the
@@ -27,23 +27,23 @@ fn allot<'a>(
     users: &'a [u16; USERS],
     consumption: &'a [i64; CELLS],
     losses: &'a [i64; CELLS],
-) -> ReportAnswer
+) -> Result<usize, Refusal>
     requires { (header.day ≤ LAST_DAY) × (emission_right header.emission header.downstream ≡ true) × Entered header.sections users.now consumption.now losses.now offtake }
     ensures result_value { answer_of result ≡ size_of (text_for (length out.old) (in_order header.day (allot ∷ []) (entering header.sections users.now consumption.now losses.now (Measured header.emission header.downstream)))) }
     ensures out_after { out.new ≡ buffer_after (text_for (length out.old) (in_order header.day (allot ∷ []) (entering header.sections users.now consumption.now losses.now (Measured header.emission header.downstream)))) out.old }
 {
     let n = header.sections;
     if n == 0 {
-        return ReportAnswer::Refused(NO_USER);
+        return Err(Refusal::NoUser);
     }
     if out.len() < REPORT_ROOM {
-        return ReportAnswer::Refused(SHORT_BUFFER);
+        return Err(Refusal::ShortBuffer);
     }
     let net = header.emission - header.downstream;
     let balance = numbers::minus(net as i64, offtake as i64);
     let mut shares = point_day::no_amounts();
     shares::share_out(balance, consumption, losses, users, n, &mut shares);
-    let size = report::put_allotted(
+    Ok(report::put_allotted(
         out,
         header.day,
         net,
@@ -53,12 +53,11 @@ fn allot<'a>(
         consumption,
         losses,
         &shares,
-    );
-    ReportAnswer::Written(size)
+    ))
 }
 
 // Enters the sections of a file into a measured point-day without users, allots it, and writes the report.
-pub fn enter(file: &[u8], out: &mut [u8], header: Header) -> ReportAnswer
+pub fn enter(file: &[u8], out: &mut [u8], header: Header) -> Result<usize, Refusal>
     requires { (well_formed file.now ≡ true) × (header ≡ header_of file.now) × (header.day ≤ LAST_DAY) × (emission_right header.emission header.downstream ≡ true) }
     ensures result_value { answer_of result ≡ size_of (text_for (length out.old) (entered_and_allotted file.now header.day (Measured header.emission header.downstream))) }
     ensures out_after { out.new ≡ buffer_after (text_for (length out.old) (entered_and_allotted file.now header.day (Measured header.emission header.downstream))) out.old }
@@ -66,7 +65,7 @@ pub fn enter(file: &[u8], out: &mut [u8], header: Header) -> ReportAnswer
     let mut users = point_day::no_users();
     let mut consumption = point_day::no_cells();
     let mut losses = point_day::no_cells();
-    match file_lines::enter_sections(
+    let offtake = file_lines::enter_sections(
         file,
         header.pairs,
         header.sections,
@@ -74,8 +73,6 @@ pub fn enter(file: &[u8], out: &mut [u8], header: Header) -> ReportAnswer
         &mut users,
         &mut consumption,
         &mut losses,
-    ) {
-        SoFar::Refused(number) => ReportAnswer::Refused(number),
-        SoFar::Offtake(offtake) => allot(out, header, offtake, &users, &consumption, &losses),
-    }
+    )?;
+    allot(out, header, offtake, &users, &consumption, &losses)
 }

@@ -5,43 +5,33 @@ pub mod allotment;
 
 ghost use Rattle.std.specs.Prelude.{◌≡◌, leb, length};
 ghost use Rattle.numbers.specs.Sums.{pick};
+ghost use Rattle.calendar.specs.Answers.{answer_of};
 ghost use Rattle.io.specs.Counts.{IsPrefixLen};
 ghost use Rattle.wire.specs.Text.{written};
 ghost use Rattle.day_file.specs.Report.{report};
 ghost use Rattle.day_file.specs.Text.{text};
 ghost use Rattle.report.specs.Room.{REPORT_ROOM};
-ghost use Rattle.day_report.specs.Answered.{report_call, buffer_after, size_of, answer_of};
+ghost use Rattle.day_report.specs.Answered.{report_call, buffer_after, size_of};
 
 use calendar::LAST_DAY;
-use day_file::Decoded;
-use numbers::{MALFORMED, OUT_OF_RANGE};
+use numbers::Refusal;
 use report::refusal;
 
 // Room for the longest report.
 pub const REPORT_ROOM: usize = 8192;
 
-// The number of a refusal, or how many bytes the report's text has.
-#[derive(Clone, Copy)]
-pub enum ReportAnswer {
-    Refused(u8),
-    Written(usize),
-}
-
 // Writes the report on a day file: the calls that it stands for, on a fresh point-day, and the first refusal is the answer; then 14 for a
-// buffer with less room than the longest report needs. What is refused writes nothing.
-pub fn write_report(file: &[u8], out: &mut [u8]) -> ReportAnswer
+// buffer with less room than the longest report needs. What is refused writes nothing. The answer is how many bytes the text has.
+pub fn write_report(file: &[u8], out: &mut [u8]) -> Result<usize, Refusal>
     ensures result_value { answer_of result ≡ size_of (report_call file.now (length out.old)) }
     ensures out_after { out.new ≡ buffer_after (report_call file.now (length out.old)) out.old }
 {
-    let decoded = day_file::decode(file);
-    let Decoded::DayFile(header) = decoded else {
-        return ReportAnswer::Refused(MALFORMED);
-    };
+    let header = day_file::decode(file)?;
     if (LAST_DAY as u64) < header.day {
-        return ReportAnswer::Refused(OUT_OF_RANGE);
+        return Err(Refusal::OutOfRange);
     }
     if !state::emission_right(header.emission, header.downstream) {
-        return ReportAnswer::Refused(OUT_OF_RANGE);
+        return Err(Refusal::OutOfRange);
     }
     allotment::enter(file, out, header)
 }
@@ -56,9 +46,8 @@ pub fn day_report(file: &[u8], out: &mut [u8]) -> usize
     if out.len() < REPORT_ROOM {
         return 0;
     }
-    let answer = write_report(file, out);
-    match answer {
-        ReportAnswer::Refused(number) => refusal::put_refused(out, number),
-        ReportAnswer::Written(size) => size,
+    match write_report(file, out) {
+        Err(refusal) => refusal::put_refused(out, refusal),
+        Ok(size) => size,
     }
 }

@@ -1,6 +1,8 @@
 -- While a day file is entered: the point-day that lent arrays stand for, and what calls on it come to: the contracts of the functions that
 -- enter a line, a section and all sections. Assumes nothing. No exported contract leans on it.
-use Rattle.std.specs.Prelude.{◌≡◌, true, false, List, ◌++◌, ℕ, ℤ, pos, length, replicate}
+use Rattle.std.specs.Prelude.{◌≡◌, true, false, List, ◌++◌, ℕ, ℤ, pos, length, replicate, Result, Ok, Err}
+use Rattle.numbers.specs.Refusals.{number_of}
+use Rattle.numbers.specs.declared.Refusal.{Refusal}
 use Rattle.point_day.specs.Limits.{USERS, CELLS}
 use Rattle.point_day.specs.Fields.{point_day}
 use Rattle.point_day.specs.Day.{all_offtake, measurement_right}
@@ -11,8 +13,6 @@ use Rattle.point_day.specs.declared.Measurement.TheVariants.{Unmeasured}
 use Rattle.point_day.specs.declared.PointDay.{PointDay}
 use Rattle.day_book.specs.Run.{Call}
 use Rattle.day_file.specs.Report.{refused, in_order}
-use Rattle.file_lines.specs.declared.lines.SoFar.{SoFar}
-use Rattle.file_lines.specs.declared.lines.SoFar.TheVariants.{Refused, Offtake}
 
 -- the point-day of n users, their numbers, consumption and losses, with a measurement and nothing allotted yet
 unfoldable pub entering : ℕ → List ℕ → List ℤ → List ℤ → Measurement → PointDay
@@ -27,15 +27,15 @@ pub record Entered (n : ℕ) (us : List ℕ) (cs ls : List ℤ) (offtake : ℕ) 
   pub sum : offtake ≡ all_offtake (read (entering n us cs ls Unmeasured)).users
 
 -- what an answer promises of the offtake that it holds
-abbrev pub UnlessRefused : SoFar → (ℕ → Type 0) → Type 0
-UnlessRefused (Refused k) P = Unit {0}
-UnlessRefused (Offtake x) P = P x
+abbrev pub UnlessRefused : Result ℕ Refusal → (ℕ → Type 0) → Type 0
+UnlessRefused (Err r) P = Unit {0}
+UnlessRefused (Ok x) P = P x
 
 -- what calls come to on a point-day, whatever its measurement and the calls after them
-abbrev pub ComesTo : SoFar → List Call → (Measurement → PointDay) → (Measurement → PointDay) → Type 0
-ComesTo (Refused k) calls before after = (day : ℕ) (m : Measurement) (rest : List Call) → measurement_right m ≡ true
-    → in_order day (calls ++ rest) (before m) ≡ refused k
-ComesTo (Offtake x) calls before after = (day : ℕ) (m : Measurement) (rest : List Call) → measurement_right m ≡ true
+abbrev pub ComesTo : Result ℕ Refusal → List Call → (Measurement → PointDay) → (Measurement → PointDay) → Type 0
+ComesTo (Err r) calls before after = (day : ℕ) (m : Measurement) (rest : List Call) → measurement_right m ≡ true
+    → in_order day (calls ++ rest) (before m) ≡ refused (number_of r)
+ComesTo (Ok x) calls before after = (day : ℕ) (m : Measurement) (rest : List Call) → measurement_right m ≡ true
     → in_order day (calls ++ rest) (before m) ≡ in_order day rest (after m)
 
 -- ---- a measured point-day without users

@@ -11,10 +11,10 @@ ghost use Rattle.day_file.specs.File.{section_calls};
 ghost use Rattle.file_lines.specs.Entering.{entering, Entered, UnlessRefused, ComesTo};
 
 use day_file::{LINE, USER};
-use lines::SoFar;
+use numbers::Refusal;
 use point_day::{CELLS, USERS};
 
-// Section i of the file, of whose sections at most `limit` are taken: a user and its lines.
+// Section i of the file, of whose sections at most `limit` are taken: a user and its lines; all consumption and losses with it.
 fn enter_section(
     file: &[u8],
     pairs: usize,
@@ -24,7 +24,7 @@ fn enter_section(
     users: &mut [u16; USERS],
     consumption: &mut [i64; CELLS],
     losses: &mut [i64; CELLS],
-) -> SoFar
+) -> Result<u64, Refusal>
     requires { (well_formed file.now ≡ true) × (pairs ≡ pairs_start file.now) × (i < pair_count file.now) × (limit ≡ USERS) × Entered i users.old consumption.old losses.old offtake }
     ensures unless_refused { UnlessRefused result (Entered (i + 1) users.new consumption.new losses.new) }
     ensures comes_to { ComesTo result (section_calls file.now (section_at file.now i))
@@ -32,28 +32,20 @@ fn enter_section(
         (entering (i + 1) users.new consumption.new losses.new) }
 {
     let section = day_file::section_at(file, pairs, i);
-    let offset = section.offset;
-    let size = section.size;
-    let user = wire::read_u16(file, offset) as u16;
-    let refusal = lines::enter_user(users, i, limit, user);
-    if refusal != 0 {
-        return SoFar::Refused(refusal);
-    }
-    let start = offset + USER;
-    let lines = (size - USER) / LINE;
+    let user = wire::read::<2>(file, section.offset) as u16;
+    lines::enter_user(users, i, limit, user)?;
+    let start = section.offset + USER;
+    let lines = (section.size - USER) / LINE;
     let mut sum = offtake;
     for j in 0..lines {
-        let at = start + LINE * j;
-        let so_far = lines::enter_line(file, at, user, i, sum, consumption, losses);
-        let SoFar::Offtake(more) = so_far else {
-            return so_far;
-        };
-        sum = more;
+        let entry = lines::read_line(file, start + LINE * j, user);
+        sum = lines::enter_line(entry, i, sum, consumption, losses)?;
     }
-    SoFar::Offtake(sum)
+    Ok(sum)
 }
 
-// All sections of the file, one after the other, on the arrays of a point-day without users; at most `limit` are taken.
+// All sections of the file, one after the other, on the arrays of a point-day without users; at most `limit` are taken. The answer is all
+// consumption and losses.
 pub fn enter_sections(
     file: &[u8],
     pairs: usize,
@@ -62,20 +54,16 @@ pub fn enter_sections(
     users: &mut [u16; USERS],
     consumption: &mut [i64; CELLS],
     losses: &mut [i64; CELLS],
-) -> SoFar
+) -> Result<u64, Refusal>
     requires { (well_formed file.now ≡ true) × (pairs ≡ pairs_start file.now) × (count ≡ pair_count file.now) × (limit ≡ USERS) × Entered 0 users.old consumption.old losses.old 0 }
     ensures unless_refused { UnlessRefused result (Entered count users.new consumption.new losses.new) }
     ensures comes_to { ComesTo result (flat (map (section_calls file.now) (sections file.now)))
         (entering 0 users.old consumption.old losses.old)
         (entering count users.new consumption.new losses.new) }
 {
-    let mut sum: u64 = 0;
+    let mut sum = 0;
     for i in 0..count {
-        let so_far = enter_section(file, pairs, i, limit, sum, users, consumption, losses);
-        let SoFar::Offtake(more) = so_far else {
-            return so_far;
-        };
-        sum = more;
+        sum = enter_section(file, pairs, i, limit, sum, users, consumption, losses)?;
     }
-    SoFar::Offtake(sum)
+    Ok(sum)
 }

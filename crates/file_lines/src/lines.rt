@@ -1,6 +1,7 @@
 // A line and a user of a day file, entered into lent arrays.
 ghost use Rattle.std.specs.Prelude.{◌≡◌, ◌+◌, ◌≤◌, ◌<◌, eqb, length, set};
 ghost use Rattle.numbers.specs.Sums.{pick};
+ghost use Rattle.numbers.specs.Refusals.{status_of};
 ghost use Rattle.point_day.specs.Limits.{USERS, LIMIT};
 ghost use Rattle.line.specs.Cell.{line_losses, place, Limited};
 ghost use Rattle.state.specs.Places.{more};
@@ -9,68 +10,65 @@ ghost use Rattle.file_lines.specs.Pieces.{line_so_far, is_added, user_refusal};
 
 use day_file::{COEFFICIENT, CONSUMPTION, LINE};
 use line::cells;
-use line::cells::CellLine;
+use line::cells::LineEntry;
+use numbers::Refusal;
 use point_day::{CELLS, USERS};
 
-// What entering a line, a section or all sections comes to: the number of a refusal, or all consumption and losses so far.
-#[derive(Clone, Copy)]
-pub enum SoFar {
-    Refused(u8),
-    Offtake(u64),
+// A user's line as it stands in the file from a place on.
+pub fn read_line(file: &[u8], at: usize, user: u16) -> LineEntry
+    requires { at + LINE ≤ length file.now }
+    ensures { result ≡ record { user = user; kind = u8 file.now at; consumption = u32 file.now (at + 1); coefficient = u16 file.now (at + 5) } }
+{
+    LineEntry {
+        user,
+        kind: file[at],
+        consumption: wire::read::<4>(file, at + CONSUMPTION),
+        coefficient: wire::read::<2>(file, at + COEFFICIENT),
+    }
 }
 
-// A line of the file, for the user of a slot.
+// A line of the user of a slot; the answer is all consumption and losses with it.
 pub fn enter_line(
-    file: &[u8],
-    at: usize,
-    user: u16,
+    entry: LineEntry,
     slot: usize,
     offtake: u64,
     consumption: &mut [i64; CELLS],
     losses: &mut [i64; CELLS],
-) -> SoFar
-    requires { (at + LINE ≤ length file.now) × (slot < USERS) × (offtake ≤ LIMIT) × Limited consumption.old × Limited losses.old }
-    ensures value { result ≡ line_so_far user (u8 file.now at) (u32 file.now (at + 1)) (u16 file.now (at + 5)) offtake }
-    ensures consumption_after { consumption.new ≡ pick (is_added user (u8 file.now at) (u32 file.now (at + 1)) (u16 file.now (at + 5)) offtake)
-        (more (place slot (u8 file.now at)) (u32 file.now (at + 1)) consumption.old) consumption.old }
-    ensures losses_after { losses.new ≡ pick (is_added user (u8 file.now at) (u32 file.now (at + 1)) (u16 file.now (at + 5)) offtake)
-        (more (place slot (u8 file.now at)) (line_losses (u32 file.now (at + 1)) (u16 file.now (at + 5))) losses.old) losses.old }
+) -> Result<u64, Refusal>
+    requires { (slot < USERS) × (offtake ≤ LIMIT) × Limited consumption.old × Limited losses.old }
+    ensures value { result ≡ line_so_far entry.user entry.kind entry.consumption entry.coefficient offtake }
+    ensures consumption_after { consumption.new ≡ pick (is_added entry.user entry.kind entry.consumption entry.coefficient offtake)
+        (more (place slot entry.kind) entry.consumption consumption.old) consumption.old }
+    ensures losses_after { losses.new ≡ pick (is_added entry.user entry.kind entry.consumption entry.coefficient offtake)
+        (more (place slot entry.kind) (line_losses entry.consumption entry.coefficient) losses.old) losses.old }
 {
-    let kind = wire::read_u8(file, at) as u8;
-    let amount = wire::read_u32(file, at + CONSUMPTION);
-    let coefficient = wire::read_u16(file, at + COEFFICIENT);
-    if !cells::line_right(user, kind, amount, coefficient) {
-        return SoFar::Refused(numbers::OUT_OF_RANGE);
+    if !entry.is_right() {
+        return Err(Refusal::OutOfRange);
     }
-    match cells::line_cell(
-        consumption,
-        losses,
-        slot,
-        kind,
-        amount,
-        coefficient,
-        offtake,
-    ) {
-        CellLine::Refused(number) => SoFar::Refused(number),
-        CellLine::Added(added) => SoFar::Offtake(offtake + (amount + added)),
-    }
+    let added = cells::line_cell(consumption, losses, slot, entry, offtake)?;
+    Ok(offtake + (entry.consumption + added))
 }
 
-// A user joins in a slot, if fewer than `limit` have joined; the number of the refusal, or 0.
-pub fn enter_user(users: &mut [u16; USERS], slot: usize, limit: usize, user: u16) -> u8
+// A user joins in a slot, if fewer than `limit` have joined.
+pub fn enter_user(
+    users: &mut [u16; USERS],
+    slot: usize,
+    limit: usize,
+    user: u16,
+) -> Result<(), Refusal>
     requires { (slot ≤ limit) × (limit ≤ USERS) }
-    ensures value { result ≡ user_refusal limit user slot users.old }
-    ensures users_after { users.new ≡ pick (eqb result 0) (set users.old slot user) users.old }
+    ensures value { status_of result ≡ user_refusal limit user slot users.old }
+    ensures users_after { users.new ≡ pick (eqb (status_of result) 0) (set users.old slot user) users.old }
 {
     if user == 0 {
-        return numbers::OUT_OF_RANGE;
+        return Err(Refusal::OutOfRange);
     }
     if state::slot_of(users, slot, user) < slot {
-        return numbers::ALREADY_JOINED;
+        return Err(Refusal::AlreadyJoined);
     }
     if limit <= slot {
-        return numbers::ALL_JOINED;
+        return Err(Refusal::AllJoined);
     }
     users[slot] = user;
-    0
+    Ok(())
 }

@@ -1,5 +1,7 @@
 -- Document 01, section "Day file and inventory": the inventory of an allotted point-day. Assumes nothing.
-use Rattle.std.specs.Prelude.{Bool, true, not, List, [], ◌∷◌, ◌++◌, map, ◌≡◌, refl, ℕ, ◌-◌, ◌*◌, ltb, eqb, ℤ, pos, negsuc, length, drop, replicate}
+use Rattle.std.specs.Prelude.{Result, Ok, Err, Bool, true, not, List, [], ◌∷◌, ◌++◌, map, ◌≡◌, refl, ℕ, ◌-◌, ◌*◌, ltb, eqb, ℤ, pos, negsuc, length, drop, replicate}
+use Rattle.numbers.specs.Refusals.{number_of}
+use Rattle.numbers.specs.declared.Refusal.{Refusal}
 use Rattle.numbers.specs.Sums.{pick, at, atZ}
 use Rattle.numbers.specs.Lists.{both, flat}
 use Rattle.point_day.specs.Limits.{KINDS}
@@ -10,8 +12,6 @@ use Rattle.point_day.specs.declared.PointDay.{PointDay}
 use Rattle.point_day.specs.declared.Stage.TheVariants.{Provisional}
 use Rattle.point_day.specs.declared.Measurement.TheVariants.{Measured}
 use Rattle.inventory.specs.Row.{ROW}
-use Rattle.inventory.specs.declared.InventoryAnswer.{InventoryAnswer}
-use Rattle.inventory.specs.declared.InventoryAnswer.TheVariants.{Refused, Rows}
 
 -- ---- rows
 
@@ -68,10 +68,10 @@ by accept count = written count
 unfoldable pub inventory : PointDay → List ℤ → Answer
 inventory d buffer = pick (taken d) (by (verdict (tests (read d) buffer)) (length (rows (read d)))) (refused 2)
 
--- what each case of the code's answer stands for
-abbrev pub answer_of : InventoryAnswer → Answer
-answer_of (Refused n) = refused n
-answer_of (Rows count) = written count
+-- what the code's answer stands for
+abbrev pub answer_of : Result ℕ Refusal → Answer
+answer_of (Err r) = refused (number_of r)
+answer_of (Ok count) = written count
 
 -- ---- the lent buffer afterwards
 

@@ -5,6 +5,10 @@ use Rattle.numbers.specs.Sums.{atZ, totalZ}
 use Rattle.point_day.specs.Struct.{kinds_of}
 use Rattle.day_file.specs.Text.{text_line, user_word}
 
+-- a number after its space is no longer
+abbrev pub NUMBER : ℕ
+NUMBER = 22
+
 -- no line is longer
 abbrev pub LONGEST_LINE : ℕ
 LONGEST_LINE = 116

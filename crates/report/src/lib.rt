@@ -22,8 +22,7 @@ fn of_slots(xs: &[i64], n: usize) -> i64
     requires { (n ≤ USERS) × (length xs.now ≡ CELLS) × Small xs.now }
     ensures { result ≡ totalZ (take (KINDS * n) xs.now) }
 {
-    let end = KINDS * n;
-    numbers::sum_of(&xs[..end])
+    numbers::sum_of(&xs[..KINDS * n])
 }
 
 // The lines of n users.
@@ -42,10 +41,8 @@ fn put_users<'a>(
     ensures out_after { out.new ≡ written out.old i (flat (table (slot_line users.now consumption.now losses.now shares.now) n)) }
 {
     let mut at = i;
-    let mut slot = 0;
-    while slot < n {
+    for slot in 0..n {
         at = lines::put_user(out, at, users, consumption, losses, shares, slot);
-        slot += 1;
     }
     at
 }
@@ -68,8 +65,7 @@ pub fn put_allotted<'a>(
     ensures out_after { out.new ≡ written out.old 0 (shares_text gas_day net offtake n users.now consumption.now losses.now shares.now) }
 {
     let c = of_slots(consumption, n);
-    let l = numbers::minus(offtake as i64, c);
-    let b = numbers::minus(net as i64, offtake as i64);
-    let at = lines::put_line(out, 0, b"point", gas_day as i64, net as i64, c, l, b);
+    let (net, offtake) = (net as i64, offtake as i64);
+    let at = lines::put_line(out, 0, b"point", &[gas_day as i64, net, c, offtake - c, net - offtake]);
     put_users(out, at, users, consumption, losses, shares, n)
 }

@@ -1,45 +1,27 @@
-// A line of a report: a word and five numbers; the line of a user.
-ghost use Rattle.std.specs.Prelude.{◌≡◌, ◌∷◌, [], ◌+◌, ◌≤◌, ◌<◌, pos, length};
-ghost use Rattle.numbers.specs.Amounts.{Within};
-ghost use Rattle.point_day.specs.Limits.{USERS, LAST_NUMBER, CELLS};
+// A line of a report: a word and numbers; the line of a user.
+ghost use Rattle.std.specs.Prelude.{◌≡◌, ◌+◌, ◌*◌, ◌≤◌, ◌<◌, length};
+ghost use Rattle.point_day.specs.Limits.{USERS, CELLS};
 ghost use Rattle.state.specs.Places.{Small};
 ghost use Rattle.wire.specs.Text.{written};
 ghost use Rattle.day_file.specs.Text.{text_line};
-ghost use Rattle.report.specs.Lines.{LONGEST_LINE, of_slot, slot_line};
+ghost use Rattle.report.specs.Lines.{NUMBER, LONGEST_LINE, of_slot, slot_line};
 
-use super::refusal;
 use point_day::{CELLS, KINDS, USERS};
 
-// A line: a word, five numbers and a line feed.
-pub fn put_line(
-    out: &mut [u8],
-    i: usize,
-    word: &[u8],
-    a: i64,
-    b: i64,
-    c: i64,
-    d: i64,
-    e: i64,
-) -> usize
-    requires { (length word.now ≤ 5) × (i + LONGEST_LINE ≤ length out.old) }
-    ensures value { (result ≡ i + length (text_line word.now (a ∷ b ∷ c ∷ d ∷ e ∷ []))) × (result ≤ i + LONGEST_LINE) }
-    ensures out_after { out.new ≡ written out.old i (text_line word.now (a ∷ b ∷ c ∷ d ∷ e ∷ [])) }
+// A line: a word, numbers, each after a space, and a line feed.
+pub fn put_line(out: &mut [u8], i: usize, word: &[u8], numbers: &[i64]) -> usize
+    requires { i + length word.now + NUMBER * length numbers.now + 1 ≤ length out.old }
+    ensures value { result ≡ i + length (text_line word.now numbers.now) }
+    ensures bound { result ≤ i + length word.now + NUMBER * length numbers.now + 1 }
+    ensures out_after { out.new ≡ written out.old i (text_line word.now numbers.now) }
 {
     let mut at = wire::put_text(out, i, word);
-    at = refusal::put_number(out, at, a);
-    at = refusal::put_number(out, at, b);
-    at = refusal::put_number(out, at, c);
-    at = refusal::put_number(out, at, d);
-    at = refusal::put_number(out, at, e);
+    for &number in numbers {
+        out[at] = b' ';
+        at = wire::put_decimal(out, at + 1, number);
+    }
     out[at] = b'\n';
     at + 1
-}
-
-// A user number as an amount.
-fn number(user: u16) -> i64
-    ensures { (result ≡ pos user) × Within LAST_NUMBER result }
-{
-    user as i64
 }
 
 // A slot's amounts over all kinds.
@@ -48,8 +30,7 @@ fn of_slot(xs: &[i64], slot: usize) -> i64
     ensures { result ≡ of_slot xs.now slot }
 {
     let start = KINDS * slot;
-    let end = start + KINDS;
-    numbers::sum_of(&xs[start..end])
+    numbers::sum_of(&xs[start..start + KINDS])
 }
 
 // The line of the user of a slot, whose balance over all kinds is its share.
@@ -68,8 +49,6 @@ pub fn put_user<'a>(
 {
     let c = of_slot(consumption, slot);
     let l = of_slot(losses, slot);
-    let offtake = numbers::plus(c, l);
     let share = shares[slot];
-    let whole = numbers::plus(offtake, share);
-    put_line(out, i, b"user", number(users[slot]), c, l, share, whole)
+    put_line(out, i, b"user", &[i64::from(users[slot]), c, l, share, c + l + share])
 }

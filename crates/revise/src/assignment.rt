@@ -3,9 +3,10 @@ ghost use Rattle.revise.specs.Assigning.{Assignable, Assigned};
 
 use super::outstanding;
 use columns::shares;
+use numbers::Refusal;
 use point_day::USERS;
 
-// R assigned to these users: false if a whole amount would be too large. `column` starts with the users' whole amounts, the sum of whose
+// R assigned to these users, unless a whole amount would be too large. `column` starts with the users' whole amounts, the sum of whose
 // sizes `weight_sum` is handed in; afterwards it has the revisions with the shares added, if R was assigned.
 pub fn assign<'a>(
     amount: i64,
@@ -13,7 +14,7 @@ pub fn assign<'a>(
     users: &'a [u16],
     revision: &'a [i64],
     column: &mut [i64],
-) -> bool
+) -> Result<(), Refusal>
     requires { Assignable amount weight_sum users.now revision.now column.old }
     ensures { Assigned amount users.now revision.now column.old result column.new }
 {
@@ -23,8 +24,8 @@ pub fn assign<'a>(
     shares::share_out(amount, users, &column[..n], weight_sum, &mut shares);
     outstanding::add_columns(&column[..n], &shares, &mut wholes);
     if taken::wholes_too_large(&wholes) {
-        return false;
+        return Err(Refusal::AmountTooLarge);
     }
     outstanding::add_columns(revision, &shares, column);
-    true
+    Ok(())
 }

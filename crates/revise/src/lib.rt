@@ -4,26 +4,25 @@
 pub mod assignment;
 pub mod outstanding;
 
-ghost use Rattle.std.specs.Prelude.{◌≡◌, true, ◌≤◌};
+ghost use Rattle.std.specs.Prelude.{◌≡◌, ◌≤◌, length};
 ghost use Rattle.numbers.specs.Lists.{both};
 ghost use Rattle.numbers.specs.Amounts.{SAFE};
-ghost use Rattle.numbers.specs.Refusals.{OUT_OF_RANGE};
-ghost use Rattle.point_day.specs.Limits.{TOLERANCE};
+ghost use Rattle.point_day.specs.Limits.{USERS, TOLERANCE};
 ghost use Rattle.point_day.specs.Day.{provisional};
 ghost use Rattle.point_day.specs.Fields.{set_revision};
-ghost use Rattle.point_day.specs.Calls.{within_tolerance, revision_assigned, revise};
+ghost use Rattle.point_day.specs.Calls.{revise};
 ghost use Rattle.point_day.specs.Answers.{answer_of};
 ghost use Rattle.point_day.specs.Struct.{outcome, called};
 ghost use Rattle.taken.specs.Tested.{Finds, Some};
 ghost use Rattle.revise.specs.Revised.{Tested, Has};
 
-use point_day::{Answer, Outcome, PointDay, Stage, TOLERANCE, USERS};
-use taken::StateTest;
+use numbers::Refusal;
+use point_day::{Accepted, Outcome, PointDay, Stage, TOLERANCE, USERS};
+use taken::State;
 
-// What the tests of a revise find: a refusal, or R, within the tolerance or assigned.
-#[derive(Clone, Copy)]
-pub enum ReviseTest {
-    Refused(u8),
+// What a revise does: R lies within the tolerance, or is assigned.
+#[derive(Clone, Copy, Debug, PartialEq, Eq)]
+pub enum Revision {
     Within(i64),
     Assigned(i64),
 }
@@ -35,62 +34,51 @@ fn is_revisable(stage: Stage, allotted: bool) -> bool
     state::is_provisional(stage) && allotted
 }
 
-// The tests of a revise by any tolerance on a point-day with these revisions, of which `state` is the test. `column` holds its whole
-// amounts, and afterwards the new revisions, if R is assigned: then no whole amount was negative, and the sum of the weights is their sum.
+// The tests of a revise by any tolerance on a taken point-day with these revisions, of which `state` is the test. `column` holds its
+// whole amounts, and afterwards the new revisions, if R is assigned: then no whole amount was negative, and the sum of the weights is their
+// sum.
 pub fn revise_test<'a>(
-    state: StateTest,
+    state: &State,
     revision: &'a [i64],
     tolerance: u64,
     column: &mut [i64],
-) -> ReviseTest
-    requires { (state.taken ≡ true → Some (Has state revision.now)) × (column.old ≡ state.wholes) × (tolerance ≤ SAFE) }
-    ensures { Finds state (result ≡ ReviseTest.Refused OUT_OF_RANGE) (λ d. d.revision ≡ revision.now → Tested tolerance d result column.new) }
+) -> Result<Revision, Refusal>
+    requires { Some (Has state.now revision.now) × (column.old ≡ state.now.wholes) × (tolerance ≤ SAFE) }
+    ensures { Finds state.now (λ d. d.revision ≡ revision.now → Tested tolerance d result column.new) }
 {
-    if !state.taken {
-        return ReviseTest::Refused(numbers::OUT_OF_RANGE);
-    }
-    let stage = state.stage;
-    let measurement = state.measurement;
     let n = state.count;
-    let users = state.users;
-    if !is_revisable(stage, state.allotted) {
-        return ReviseTest::Refused(numbers::WRONG_STAGE);
+    if !is_revisable(state.stage, state.allotted) {
+        return Err(Refusal::WrongStage);
     }
-    let amount = outstanding::outstanding(measurement, state.sum);
+    let amount = outstanding::outstanding(state.measurement, state.sum);
     if numbers::size_at_most(amount, tolerance) {
-        return ReviseTest::Within(amount);
+        return Ok(Revision::Within(amount));
     }
     if columns::any_negative(&column[..n]) {
-        return ReviseTest::Refused(numbers::NEGATIVE_WEIGHT);
+        return Err(Refusal::NegativeWeight);
     }
     let weight_sum = numbers::size(state.sum);
-    if !assignment::assign(amount, weight_sum, &users[..n], revision, column) {
-        return ReviseTest::Refused(numbers::AMOUNT_TOO_LARGE);
-    }
-    ReviseTest::Assigned(amount)
+    assignment::assign(amount, weight_sum, &state.users[..n], revision, column)?;
+    Ok(Revision::Assigned(amount))
 }
 
-// The point-day as it was, and R.
-fn within(amount: i64, day: PointDay) -> Outcome
-    ensures { outcome (answer_of result.answer) result.day ≡ outcome (within_tolerance amount) day }
+// The tests of a revise, that of the point-day first; `column` has the new revisions afterwards, if R is assigned.
+fn tests(day: PointDay, tolerance: u64, column: &mut [i64]) -> Result<Revision, Refusal>
+    requires { (length column.old ≡ USERS) × (tolerance ≤ SAFE) }
+    ensures { Tested tolerance day result column.new }
 {
-    Outcome {
-        answer: Answer::WithinTolerance(amount),
-        day: day,
-    }
+    let state = taken::test_day(day)?;
+    column.copy_from_slice(&state.wholes);
+    revise_test(&state, &day.revision, tolerance, column)
 }
 
-// The point-day with other revisions, and R.
-fn assigned(amount: i64, column: [i64; USERS], day: PointDay) -> Outcome
-    ensures { outcome (answer_of result.answer) result.day ≡ outcome (revision_assigned amount) (set_revision column day) }
+// The point-day with other revisions.
+fn put_revisions(day: PointDay, revision: [i64; USERS]) -> PointDay
+    ensures { result ≡ set_revision revision day }
 {
-    let next = PointDay {
-        revision: column,
+    PointDay {
+        revision: revision,
         ..day
-    };
-    Outcome {
-        answer: Answer::RevisionAssigned(amount),
-        day: next,
     }
 }
 
@@ -99,13 +87,18 @@ pub fn revise_by(day: PointDay, tolerance: u64) -> Outcome
     requires { tolerance ≤ SAFE }
     ensures { outcome (answer_of result.answer) result.day ≡ called (revise tolerance) day }
 {
-    let state = taken::test_day(day);
-    let mut column = state.wholes;
-    let test = revise_test(state, &day.revision, tolerance, &mut column);
-    match test {
-        ReviseTest::Refused(number) => point_day::refuse(number, day),
-        ReviseTest::Within(amount) => within(amount, day),
-        ReviseTest::Assigned(amount) => assigned(amount, column, day),
+    let mut column = numbers::repeat::<i64, USERS>(0);
+    match tests(day, tolerance, &mut column) {
+        Err(refusal) => point_day::refuse(refusal, day),
+        Ok(Revision::Within(amount)) => {
+            point_day::accept(Accepted::WithinTolerance(amount), day)
+        }
+        Ok(Revision::Assigned(amount)) => {
+            point_day::accept(
+                Accepted::RevisionAssigned(amount),
+                put_revisions(day, column),
+            )
+        }
     }
 }
 

@@ -15,7 +15,7 @@ use Rattle.point_day.specs.Calls.{refused, row_right, stand_in}
 use Rattle.point_day.specs.Struct.{Sized, taken, row_at, rows_of, Outcome, outcome, called}
 use Rattle.point_day.specs.declared.PointDay.{PointDay}
 use Rattle.taken.specs.Tested.{Known}
-use Rattle.taken.specs.declared.StateTest.{StateTest}
+use Rattle.taken.specs.declared.State.{State}
 use Rattle.stand_in.specs.Rows.{rows, rows_in, Nearest}
 use Rattle.stand_in.proofs.rows.Rows.{none_filled, rows_lengths, rows_held, right_readable}
 use Rattle.stand_in.specs.Openings.{Usable, RowTested, row_users}
@@ -61,7 +61,7 @@ module _ (cs us : List ℕ) (zs : List ℤ) (right : every row_right (rows_of (r
 
 -- ---- the tests' words of the state, on the point-day itself
 
-module _ {d : PointDay} {s : StateTest} (k : Known d s) where
+module _ {d : PointDay} {s : State} (k : Known d s) where
   pub open_is : both (provisional d.stage) (both (not d.allotted) (eqb d.count 0)) ≡ both (provisional s.stage) (both (not s.allotted) (eqb s.count 0))
   open_is = rw (k.stage, k.allotted, k.count)
 

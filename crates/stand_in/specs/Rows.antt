@@ -1,5 +1,5 @@
 -- A stand-in's rows in three lists, and what they hold, place by place. Assumes nothing.
-use Rattle.std.specs.Prelude.{Bool, List, ◌≡◌, ℕ, ◌*◌, ◌≤◌, ◌<◌, eqb, ℤ, pos, length, get_or, replicate}
+use Rattle.std.specs.Prelude.{Option, Some, None, Bool, List, ◌≡◌, ℕ, ◌*◌, ◌≤◌, ◌<◌, eqb, ℤ, pos, length, get_or, replicate}
 use Rattle.numbers.specs.Sums.{pick}
 use Rattle.numbers.specs.Lists.{both}
 use Rattle.point_day.specs.Limits.{USERS, ROWS}
@@ -27,3 +27,8 @@ pub record Nearest (counts : List ℕ) (r : ℕ) : Type 0 where
   pub within : r ≤ ROWS
   pub before : (k : ℕ) → k < r → get_or counts k 0 ≡ 0
   pub there : r < ROWS → get_or counts r 0 ≡ 0 → ⊥
+
+-- the place of the first of the rows' counts that is not 0, if there is one
+abbrev pub NearestFilled : List ℕ → Option ℕ → Type 0
+NearestFilled counts (Some r) = Nearest counts r × (r < ROWS)
+NearestFilled counts None = Nearest counts ROWS

@@ -6,7 +6,7 @@ ghost use Rattle.point_day.specs.Day.{no_more, is_number};
 ghost use Rattle.point_day.specs.Calls.{row_right};
 ghost use Rattle.point_day.specs.Struct.{rows_of};
 ghost use Rattle.stand_in.specs.Openings.{RowAt, row_users};
-ghost use Rattle.stand_in.specs.Rows.{rows, rows_readable, rows_in, Nearest};
+ghost use Rattle.stand_in.specs.Rows.{rows, rows_readable, rows_in, NearestFilled};
 
 use point_day::{PAIRS, ROWS, USERS};
 
@@ -65,12 +65,12 @@ pub fn rows_right<'a>(counts: &'a [usize], users: &'a [u16], amounts: &'a [i64])
     rows_readable(counts, users, amounts) && each_row_right(counts, users, amounts)
 }
 
-// The nearest row with any pair, from 0; so many as there are if none has.
-pub fn nearest_filled(counts: &[usize]) -> usize
+// The nearest row with any pair, from 0.
+pub fn nearest_filled(counts: &[usize]) -> Option<usize>
     requires { length counts.now ≡ ROWS }
-    ensures { Nearest counts.now result }
+    ensures { NearestFilled counts.now result }
 {
-    counts.iter().position(|&n| n != 0).unwrap_or(ROWS)
+    counts.iter().position(|&n| n != 0)
 }
 
 // The user numbers of a row.

@@ -1,4 +1,4 @@
-use Prim.Native.Nat.{◌≤◌, ◌+◌, ◌-◌, ◌*◌}
+use Prim.Native.Nat.{◌≤◌, ◌+◌, ◌*◌}
 use Rattle.numbers.specs.Sums.{table}
 use Rattle.numbers.specs.Lists.{flat}
 use Rattle.report.specs.Lines.{LONGEST_LINE, slot_line}
@@ -7,7 +7,4 @@ use Rattle.report.proofs.put_users.Given as goal
 
 abbrev pub invariant-loop-slot : goal.invariant-loop-slot
 invariant-loop-slot l =
-    (l.slot ≤ l.n) × Put l.initial.out l.i (flat (table (slot_line l.users l.consumption l.losses l.shares) l.slot)) l.out l.at × (l.at ≤ l.i + LONGEST_LINE * l.slot)
-
-abbrev pub decreases-loop-slot : goal.decreases-loop-slot
-decreases-loop-slot l = l.n - l.slot
+    Put l.initial.out l.i (flat (table (slot_line l.users l.consumption l.losses l.shares) l.slot)) l.out l.at × (l.at ≤ l.i + LONGEST_LINE * l.slot)

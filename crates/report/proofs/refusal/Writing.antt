@@ -40,27 +40,11 @@ put_none d i l = record { is = sym (rw (append-nil (take i d)) (none i)); end = 
 
 -- ---- a line
 
--- a space and a number after a text; y is x as a callee has it
-pub put_next : {d : List ℕ} {i : ℕ} {s d' : List ℕ} {at : ℕ} → Put d i s d' at → (x y : ℤ) → y ≡ x → {d'' : List ℕ} {at' : ℕ}
-    → at' ≡ at + length (SPACE ∷ decimal y) → d'' ≡ written d' at (SPACE ∷ decimal y) → at' ≤ length d → Put d i (s ++ (SPACE ∷ decimal x)) d'' at'
-put_next {d' = d'} {at = at} p x y e f g l =
-    put_more p (SPACE ∷ decimal x) (g ∙ ap (λ z. written d' at (SPACE ∷ decimal z)) e) (f ∙ ap (λ z. at + length (SPACE ∷ decimal z)) e) l
-
--- one text after the other is a line
-regroup : (w a b c d e f : List ℕ) → (((((w ++ a) ++ b) ++ c) ++ d) ++ e) ++ f ≡ w ++ ((a ++ (b ++ (c ++ (d ++ (e ++ []))))) ++ f)
-regroup w a b c d e f = simp append_assoc
-
-pub five_numbers : (word : List ℕ) (a b c d e : ℤ)
-    → (((((word ++ (SPACE ∷ decimal a)) ++ (SPACE ∷ decimal b)) ++ (SPACE ∷ decimal c)) ++ (SPACE ∷ decimal d)) ++ (SPACE ∷ decimal e)) ++ (LINE_FEED ∷ []) ≡ text_line word (a ∷ b ∷ c ∷ d ∷ e ∷ [])
+pub spaced_next : (zs : List ℤ) (k : ℕ) → k < length zs → spaced (take (k + 1) zs) ≡ spaced (take k zs) ++ (SPACE ∷ decimal (get_or zs k (pos 0)))
 unfolding spaced
-five_numbers word a b c d e = regroup word (SPACE ∷ decimal a) (SPACE ∷ decimal b) (SPACE ∷ decimal c) (SPACE ∷ decimal d) (SPACE ∷ decimal e) (LINE_FEED ∷ [])
-
-regroup_one : (w a f : List ℕ) → (w ++ a) ++ f ≡ w ++ ((a ++ []) ++ f)
-regroup_one w a f = simp append_assoc
-
-pub one_number : (word : List ℕ) (a : ℤ) → (word ++ (SPACE ∷ decimal a)) ++ (LINE_FEED ∷ []) ≡ text_line word (a ∷ [])
-unfolding spaced
-one_number word a = regroup_one word (SPACE ∷ decimal a) (LINE_FEED ∷ [])
+spaced_next [] k l = absurd (omega arith)
+spaced_next (z ∷ zs) zero l = append-nil (SPACE ∷ decimal z)
+spaced_next (z ∷ zs) (suc k) l = ap (λ t. (SPACE ∷ decimal z) ++ t) (spaced_next zs k (omega arith)) ∙ sym (append_assoc (SPACE ∷ decimal z) (spaced (take k zs)) (SPACE ∷ decimal (get_or zs k (pos 0))))
 
 -- the same text by another name
 pub put_as : {d : List ℕ} {i : ℕ} {s t d' : List ℕ} {at : ℕ} → s ≡ t → Put d i s d' at → Put d i t d' at

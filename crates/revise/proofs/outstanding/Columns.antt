@@ -28,13 +28,13 @@ use Rattle.state.specs.Places.{whole_at}
 use Rattle.state.proofs.Cells.{between_size, within_from}
 use Rattle.state.proofs.Totals.{whole_is}
 use Rattle.taken.specs.Tested.{Known}
-use Rattle.taken.specs.declared.StateTest.{StateTest}
+use Rattle.taken.specs.declared.State.{State}
 use Rattle.taken.proofs.Facts.{facts, sum_kept, known_few}
 use Rattle.columns.proofs.Padding.{table_by, all_within}
 use Rattle.columns.proofs.Shared.{sizes_sum}
 use Rattle.revise.specs.Revisions.{outstanding, shares}
 
-module _ {d : PointDay} {s : StateTest} (k : Known d s) where
+module _ {d : PointDay} {s : State} (k : Known d s) where
   abbrev t : Taken d
   t = taken_facts d k.is_taken
 
