@@ -1,5 +1,5 @@
 -- Laws of the history: gaps, estimates and own values put anywhere between change neither the mean nor newness, and never enter a mean. Assumes nothing.
-use mathlib.Core.Path.{◌≡◌, refl, sym, ap}
+use mathlib.Core.Path.{◌≡◌, refl, ap}
 use mathlib.Core.Bool.{true}
 use mathlib.Core.List.{List, [], ◌∷◌, ◌++◌}
 use mathlib.Core.Logic.{⊎_elim}
@@ -10,22 +10,26 @@ use Rattle.numbers.proofs.Sums.{cases}
 use Rattle.numbers.proofs.Lists.{All, all_map}
 use Rattle.calendar.specs.DayTypes.{day_type, same_type}
 use Rattle.history.specs.History.{MATCHES, Dated, RealReading, real_of, real_readings, matching, last_three, mean_value, is_empty, is_new, real_value}
-use Rattle.supply.specs.declared.Amount.TheVariants.{Missing, Known}
+use Rattle.std.specs.Prelude.{None}
 use Rattle.history.specs.declared.Reading.{Reading}
 use Rattle.history.specs.declared.Reading.TheVariants.{Nothing, Real, Estimated, Own}
 
-pub missing_known : {A : Type 0} {v : ℕ} → Missing ≡ Known v → A
-missing_known e = let z : ◌≡◌ {A = ℕ} 0 1 = cc in absurd (omega arith)
-
 -- a gap, an estimate or the user's own value
 abbrev pub NotReal : Dated → Type 0
-NotReal x = real_value x.reading ≡ Missing
+NotReal x = real_value x.reading ≡ None
 
 -- ---- what stands between
 
-none_real : (d : ℕ) (r : Reading) → real_value r ≡ Missing → real_of d r ≡ []
+-- what is no real reading has no value
+pub not_real : (r : Reading) → ((v : ℕ) → r ≡ Real v → ⊥) → real_value r ≡ None
+not_real Nothing h = refl
+not_real (Real v) h = absurd (h v refl)
+not_real (Estimated v) h = refl
+not_real (Own v) h = refl
+
+pub none_real : (d : ℕ) (r : Reading) → real_value r ≡ None → real_of d r ≡ []
 none_real d Nothing e = refl
-none_real d (Real v) e = missing_known (sym e)
+none_real d (Real v) e = cc
 none_real d (Estimated v) e = refl
 none_real d (Own v) e = refl
 

@@ -2,10 +2,8 @@
 use mathlib.Core.Path.{◌≡◌, refl, sym, ap, ◌∙◌}
 use mathlib.Core.Bool.{Bool, true, false, not}
 use mathlib.Core.List.{List, [], ◌∷◌, ◌++◌}
-use mathlib.Core.Logic.{⊎_elim}
 use Prim.Native.Nat.{ℕ, suc, ◌+◌, ◌-◌, ◌*◌, ◌≤◌, ◌<◌}
 use native.Mathlib.Omega.{arith}
-use native.Mathlib.Nat.{add-mul}
 use native.Mathlib.Numerals.{add-one, lt_of_le_of_ne}
 use lib.Dec.{eqb}
 use lib.ListN.{length, get_or, take, drop, drop_of_length-le}
@@ -13,19 +11,21 @@ use lib.Seq.{drop-cons, take-nil}
 use borrow.Author.Tests.{eq-eqb, ne_eqb, eqb-true, leb-true}
 use Rattle.numbers.specs.Sums.{pick, total}
 use Rattle.numbers.specs.Lists.{either}
-use Rattle.numbers.proofs.Sums.{cases, lt_or_ge}
-use Rattle.numbers.proofs.Lists.{true≢false}
+use Rattle.std.specs.Prelude.{None}
 use Rattle.calendar.specs.DayTypes.{day_type, same_type}
 use Rattle.calendar.specs.declared.DayType.{DayType}
 use Rattle.supply.specs.Amounts.{LIMIT}
-use Rattle.history.specs.History.{MATCHES, Dated, RealReading, reading_right, dated, real_of, real_readings, matching, last_three, sum_of, looked_at, is_empty, is_new}
-use Rattle.history.specs.Search.{found_in, hit_of}
+use Rattle.history.specs.History.{MATCHES, Dated, RealReading, reading_right, dated, real_of, real_readings, matching, last_three, sum_of, looked_at, is_empty, is_new, real_value}
+use Rattle.history.specs.Search.{found_in}
 use Rattle.history.specs.declared.Reading.{Reading}
-use Rattle.history.specs.declared.Reading.TheVariants.{Nothing, Real, Estimated, Own}
+use Rattle.history.specs.declared.Reading.TheVariants.{Nothing, Real}
 use Rattle.history.specs.declared.Entry.{Entry}
-use Rattle.history.specs.declared.Hit.{Hit}
 use Rattle.history.specs.declared.Found.{Found}
-use Rattle.history.proofs.Hits.{hit_none, hit_match, hit_other}
+use Rattle.history.proofs.Laws.{none_real}
+
+-- an entry without a reading, which no place has past the end
+abbrev pub nothing : Entry
+nothing = record { reading = Nothing }
 
 -- the day of the last of some readings
 last_day : ℕ → List RealReading → ℕ
@@ -36,19 +36,9 @@ either_false : (b : Bool) → either b false ≡ b
 either_false true = refl
 either_false false = refl
 
-either_true : (b c : Bool) → either (either b true) c ≡ either b true
-either_true true c = refl
-either_true false c = refl
-
 either_yes : (b : Bool) → either b true ≡ true
 either_yes true = refl
 either_yes false = refl
-
--- what an entry in range adds
-pub record SmallHit (h : Hit) : Type 0 where
-  pub one : h.matches ≤ 1
-  pub small : h.value ≤ h.matches * LIMIT
-  pub seen : 0 < h.matches → h.real ≡ true
 
 module _ (hs : List ℕ) (d n : ℕ) where
   abbrev t : DayType
@@ -117,142 +107,120 @@ module _ (hs : List ℕ) (d n : ℕ) where
 
   module _ (sum matches : ℕ) (real : Bool) (i : ℕ) (few : matches < MATCHES) (rs : List RealReading) where
     -- an entry that is not real adds nothing
-    idle : whole sum matches real i rs ≡ whole (sum + 0) (matches + 0) (either real false) (i + 1) rs
+    pub idle : whole sum matches real i rs ≡ whole sum matches real (i + 1) rs
     unfolding whole
-    idle =
-        let z : matches + 0 ≡ matches = omega arith in
-        let y : sum + 0 ≡ sum = omega arith in
-        rw (z, y, either_false real) (made_idle sum matches _ (d - i) (d - (i + 1)) few _)
+    idle = made_idle sum matches _ (d - i) (d - (i + 1)) few _
 
-    module _ (m : RealReading) (here : m.day ≡ d - (i + 1)) where
+    module _ (v : ℕ) where
+      abbrev m : RealReading
+      m = record { day = d - (i + 1); value = v }
+
       -- a real reading on a day of another type
-      other : same_type (day_type hs m.day) t ≡ false → whole sum matches real i (m ∷ rs) ≡ whole (sum + 0) (matches + 0) (either real true) (i + 1) rs
+      pub other : same_type (day_type hs (d - (i + 1))) t ≡ false → whole sum matches real i (m ∷ rs) ≡ whole sum matches true (i + 1) rs
       unfolding whole matching
-      other e =
-          let z : matches + 0 ≡ matches = omega arith in
-          let y : sum + 0 ≡ sum = omega arith in
-          rw (e, z, y, either_true real (not (is_empty rs))) (made_idle sum matches _ (d - i) (d - (i + 1)) few _)
+      other e = rw (e, either_yes real) (made_idle sum matches true (d - i) (d - (i + 1)) few _)
 
       -- a match
-      match : same_type (day_type hs m.day) t ≡ true → whole sum matches real i (m ∷ rs) ≡ whole (sum + m.value) (matches + 1) (either real true) (i + 1) rs
+      pub match : same_type (day_type hs (d - (i + 1))) t ≡ true → whole sum matches real i (m ∷ rs) ≡ whole (sum + v) (matches + 1) true (i + 1) rs
       unfolding whole matching
       match e =
           let k : MATCHES - matches ≡ suc (MATCHES - (matches + 1)) = omega arith in
-          rw (e, k, either_true real (not (is_empty rs)), ← here) (made_match sum matches _ (d - i) m _)
+          rw (e, k, either_yes real) (made_match sum matches true (d - i) m _)
 
-  -- ---- any entry
+-- ---- the loop
 
-  step : (sum matches : ℕ) (real : Bool) (i : ℕ) → matches < MATCHES → (rs : List RealReading) (r : Reading)
-      → let h = hit_of hs t (d - (i + 1)) r in
-      whole sum matches real i (real_of (d - (i + 1)) r ++ rs) ≡ whole (sum + h.value) (matches + h.matches) (either real h.real) (i + 1) rs
-  step sum matches real i few rs Nothing = rw (← hit_none hs t (d - (i + 1)) Nothing refl) (idle sum matches real i few rs)
-  step sum matches real i few rs (Estimated v) = rw (← hit_none hs t (d - (i + 1)) (Estimated v) refl) (idle sum matches real i few rs)
-  step sum matches real i few rs (Own v) = rw (← hit_none hs t (d - (i + 1)) (Own v) refl) (idle sum matches real i few rs)
-  step sum matches real i few rs (Real v) = ⊎_elim yes_match no_match (cases (same_type (day_type hs (d - (i + 1))) t))
-    where
-      m : RealReading
-      m = record { day = d - (i + 1); value = v }
+module _ (hs : List ℕ) (d : ℕ) (es : List Entry) where
+  pub reals_from : ℕ → List RealReading
+  reals_from i = real_readings (dated (d - i) (drop i es))
 
-      yes_match : same_type (day_type hs (d - (i + 1))) t ≡ true → whole sum matches real i (m ∷ rs) ≡ whole (sum + (hit_of hs t (d - (i + 1)) (Real v)).value) (matches + (hit_of hs t (d - (i + 1)) (Real v)).matches) (either real (hit_of hs t (d - (i + 1)) (Real v)).real) (i + 1) rs
-      yes_match e = rw (← hit_match hs t (d - (i + 1)) (Real v) refl e) (match sum matches real i few rs m refl e)
+  reals_next : (i : ℕ) (e₀ : Entry) → i < length es → reals_from i ≡ real_of (d - (i + 1)) (get_or es i e₀).reading ++ reals_from (i + 1)
+  unfolding reals_from dated real_readings
+  reals_next i e₀ l =
+      let z : d - i - 1 ≡ d - (i + 1) = omega arith in
+      rw (drop-cons es i e₀ l, z, add-one i)
 
-      no_match : same_type (day_type hs (d - (i + 1))) t ≡ false → whole sum matches real i (m ∷ rs) ≡ whole (sum + (hit_of hs t (d - (i + 1)) (Real v)).value) (matches + (hit_of hs t (d - (i + 1)) (Real v)).matches) (either real (hit_of hs t (d - (i + 1)) (Real v)).real) (i + 1) rs
-      no_match e = rw (← hit_other hs t (d - (i + 1)) (Real v) refl e) (other sum matches real i few rs m refl e)
+  -- the search has come to place i
+  pub record Going (sum matches : ℕ) (real : Bool) (i : ℕ) : Type 0 where
+    pub inside : i ≤ length es
+    pub few : matches ≤ MATCHES
+    pub small : sum ≤ matches * LIMIT
+    pub seen : 0 < matches → real ≡ true
+    pub is : found_in hs d (length es) (dated d es) ≡ whole hs d (length es) sum matches real i (reals_from i)
 
-  -- ---- the loop
+  pub going_start : Going 0 0 false 0
+  unfolding reals_from
+  going_start = record {
+    inside = omega arith;
+    few = omega arith;
+    small = omega arith;
+    seen = λ l. absurd (omega arith);
+    is = let z : d - 0 ≡ d = omega arith in rw z (start hs d (length es) (dated d es));
+  }
 
-  module _ (es : List Entry) where
-    pub reals_from : ℕ → List RealReading
-    reals_from i = real_readings (dated (d - i) (drop i es))
+  module _ {sum matches : ℕ} {real : Bool} {i : ℕ} (g : Going sum matches real i) where
+    -- an entry is looked at
+    module _ (more : matches ≡ MATCHES → ⊥) (left : i < length es) (e₀ : Entry) where
+      abbrev here : Reading
+      here = (get_or es i e₀).reading
 
-    reals_next : (i : ℕ) (e₀ : Entry) → i < length es → reals_from i ≡ real_of (d - (i + 1)) (get_or es i e₀).reading ++ reals_from (i + 1)
-    unfolding reals_from dated real_readings
-    reals_next i e₀ l =
-        let z : d - i - 1 ≡ d - (i + 1) = omega arith in
-        rw (drop-cons es i e₀ l, z, add-one i)
+      pub few_before : matches < MATCHES
+      few_before = lt_of_le_of_ne g.few more
 
-    -- the search has come to place i
-    pub record Going (sum matches : ℕ) (real : Bool) (i : ℕ) : Type 0 where
-      pub inside : i ≤ n
-      pub few : matches ≤ MATCHES
-      pub small : sum ≤ matches * LIMIT
-      pub seen : 0 < matches → real ≡ true
-      pub is : found_in hs d n (dated d es) ≡ whole sum matches real i (reals_from i)
+      -- one that is not real adds nothing
+      pub going_idle : real_value here ≡ None → Going sum matches real (i + 1)
+      going_idle none = record {
+        inside = omega (arith, left);
+        few = g.few;
+        small = g.small;
+        seen = g.seen;
+        is =
+            g.is
+            ∙ ap (whole hs d (length es) sum matches real i) (reals_next i e₀ left ∙ ap (λ ms. ms ++ reals_from (i + 1)) (none_real (d - (i + 1)) here none))
+            ∙ idle hs d (length es) sum matches real i few_before (reals_from (i + 1));
+      }
 
-    pub going_start : Going 0 0 false 0
-    unfolding reals_from
-    going_start = record {
-      inside = omega arith;
-      few = omega arith;
-      small = omega arith;
-      seen = λ l. absurd (omega arith);
-      is = let z : d - 0 ≡ d = omega arith in rw z (start (dated d es));
-    }
+      -- a real one is remembered, and counts if its day is of the gas day's type
+      module _ {v : ℕ} (is : here ≡ Real v) where
+        next : reals_from i ≡ record { day = d - (i + 1); value = v } ∷ reals_from (i + 1)
+        next = reals_next i e₀ left ∙ ap (λ r. real_of (d - (i + 1)) r ++ reals_from (i + 1)) is
 
-    -- a hit is small, and real if it matches
-    hit_small : (x : ℕ) (r : Reading) → reading_right r ≡ true → SmallHit (hit_of hs t x r)
-    hit_small x Nothing e = rw (← hit_none hs t x Nothing refl) (record { one = omega arith; small = omega arith; seen = λ l. absurd (omega arith) })
-    hit_small x (Estimated v) e = rw (← hit_none hs t x (Estimated v) refl) (record { one = omega arith; small = omega arith; seen = λ l. absurd (omega arith) })
-    hit_small x (Own v) e = rw (← hit_none hs t x (Own v) refl) (record { one = omega arith; small = omega arith; seen = λ l. absurd (omega arith) })
-    hit_small x (Real v) e =
-        ⊎_elim
-        (λ q. rw (← hit_match hs t x (Real v) refl q) (record { one = omega arith; small = omega (arith, leb-true v LIMIT e); seen = λ l. refl }))
-        (λ q. rw (← hit_other hs t x (Real v) refl q) (record { one = omega arith; small = omega arith; seen = λ l. refl }))
-        (cases (same_type (day_type hs x) t))
-
-    module _ {sum matches : ℕ} {real : Bool} {i : ℕ} (g : Going sum matches real i) where
-      module _ (more : matches ≡ MATCHES → ⊥) (left : i < length es) (e₀ : Entry) (right : reading_right (get_or es i e₀).reading ≡ true) {h : Hit} (hit : h ≡ hit_of hs t (d - (i + 1)) (get_or es i e₀).reading) (long : length es ≡ n) where
-        small_hit : SmallHit h
-        small_hit = rw hit (hit_small (d - (i + 1)) (get_or es i e₀).reading right)
-
-        pub next_small : sum + h.value ≤ (matches + h.matches) * LIMIT
-        next_small = omega (arith, g.small, small_hit.small, add-mul matches h.matches LIMIT)
-
-        pub next_few : matches + h.matches ≤ MATCHES
-        next_few = omega (arith, g.few, small_hit.one, lt_of_le_of_ne g.few more)
-
-        pub going_next : Going (sum + h.value) (matches + h.matches) (either real h.real) (i + 1)
-        going_next = record {
+        pub going_other : same_type (day_type hs (d - (i + 1))) (day_type hs d) ≡ false → Going sum matches true (i + 1)
+        going_other e = record {
           inside = omega (arith, left);
-          few = next_few;
-          small = next_small;
-          seen = seen_next real h.real;
-          is =
-              g.is
-              ∙ ap (whole sum matches real i) (reals_next i e₀ left)
-              ∙ step sum matches real i (lt_of_le_of_ne g.few more) (reals_from (i + 1)) (get_or es i e₀).reading
-              ∙ ap (λ k. whole (sum + k.value) (matches + k.matches) (either real k.real) (i + 1) (reals_from (i + 1))) (sym hit);
+          few = g.few;
+          small = g.small;
+          seen = λ l. refl;
+          is = g.is ∙ ap (whole hs d (length es) sum matches real i) next ∙ other hs d (length es) sum matches real i few_before (reals_from (i + 1)) v e;
         }
-          where
-            seen_next : (a b : Bool) → 0 < matches + h.matches → either real h.real ≡ true
-            seen_next a b l = ⊎_elim (λ q. rw (g.seen q)) (λ q. rw (small_hit.seen (omega arith)) (either_yes real)) (lt_or_ge 0 matches)
 
-        -- a real entry is remembered, and one that is not real adds nothing
-        pub going_real : h.real ≡ true → Going (sum + h.value) (matches + h.matches) true (i + 1)
-        going_real e = rw (e, either_yes real) at going_next
+        module _ (right : reading_right here ≡ true) where
+          pub match_small : sum + v ≤ (matches + 1) * LIMIT
+          match_small = omega (arith, g.small, leb-true v LIMIT (sym (ap reading_right is) ∙ right))
 
-        pub going_idle : h.real ≡ false → Going sum matches real (i + 1)
-        going_idle e =
-            let m : h.matches ≡ 0 = ⊎_elim (λ q. true≢false (sym (small_hit.seen q) ∙ e)) (λ q. omega arith) (lt_or_ge 0 h.matches) in
-            let a : matches + h.matches ≡ matches = omega arith in
-            let b : sum + h.value ≡ sum = omega (arith, small_hit.small) in
-            rw (b, a, e, either_false real) at going_next
+          pub going_match : same_type (day_type hs (d - (i + 1))) (day_type hs d) ≡ true → Going (sum + v) (matches + 1) true (i + 1)
+          going_match e = record {
+            inside = omega (arith, left);
+            few = omega (arith, few_before);
+            small = match_small;
+            seen = λ l. refl;
+            is = g.is ∙ ap (whole hs d (length es) sum matches real i) next ∙ match hs d (length es) sum matches real i few_before (reals_from (i + 1)) v e;
+          }
 
-      -- the third match ends it
-      pub third : matches ≡ MATCHES → n ≤ d → record { sum = sum; matches = matches; looked = i; real = real } ≡ found_in hs d n (dated d es)
-      unfolding whole
-      third e l =
-          let z : MATCHES - matches ≡ 0 = omega arith in
-          let y : d - (d - i) ≡ i = omega (arith, g.inside) in
-          let r : either real (not (is_empty (reals_from i))) ≡ real = rw (g.seen (omega arith)) in
-          sym
-          (g.is
-          ∙ rw (z, r) (made_end sum matches real (d - i) i (rw (eq-eqb matches MATCHES e) y)))
+    -- the third match ends it
+    pub third : matches ≡ MATCHES → length es ≤ d → record { sum = sum; matches = matches; looked = i; real = real } ≡ found_in hs d (length es) (dated d es)
+    unfolding whole
+    third e l =
+        let z : MATCHES - matches ≡ 0 = omega arith in
+        let y : d - (d - i) ≡ i = omega (arith, g.inside) in
+        let r : either real (not (is_empty (reals_from i))) ≡ real = rw (g.seen (omega arith)) in
+        sym
+        (g.is
+        ∙ rw (z, r) (made_end hs d (length es) sum matches real (d - i) i (rw (eq-eqb matches MATCHES e) y)))
 
-      -- or the end of the history
-      pub at_end : (matches ≡ MATCHES → ⊥) → i ≡ n → length es ≡ n → record { sum = sum; matches = matches; looked = i; real = real } ≡ found_in hs d n (dated d es)
-      unfolding whole reals_from dated real_readings matching
-      at_end more e long =
-          sym
-          (g.is
-          ∙ rw (drop_of_length-le es {i = i} (omega arith), take-nil (MATCHES - matches), either_false real) (made_end sum matches real (d - i) i (rw (ne_eqb matches MATCHES more) (sym e))))
+    -- or the end of the history
+    pub at_end : (matches ≡ MATCHES → ⊥) → i ≡ length es → record { sum = sum; matches = matches; looked = i; real = real } ≡ found_in hs d (length es) (dated d es)
+    unfolding whole reals_from dated real_readings matching
+    at_end more e =
+        sym
+        (g.is
+        ∙ rw (drop_of_length-le es {i = i} (omega arith), take-nil (MATCHES - matches), either_false real) (made_end hs d (length es) sum matches real (d - i) i (rw (ne_eqb matches MATCHES more) (sym e))))

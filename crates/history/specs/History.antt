@@ -1,5 +1,5 @@
 -- Document 01, "Telemetered": the history and its last three real readings. Assumes nothing.
-use Rattle.std.specs.Prelude.{Bool, true, false, List, [], ◌∷◌, ◌++◌, map, ℕ, ◌-◌, leb, eqb, length, get_or, take}
+use Rattle.std.specs.Prelude.{Bool, true, false, List, [], ◌∷◌, ◌++◌, map, ℕ, ◌-◌, leb, eqb, length, get_or, take, Option, None, Some}
 use Rattle.numbers.specs.Nearest.{nearest}
 use Rattle.numbers.specs.Sums.{pick, total}
 use Rattle.numbers.specs.Lists.{both, every}
@@ -9,8 +9,6 @@ use Rattle.supply.specs.Amounts.{in_limit}
 use Rattle.history.specs.declared.Reading.{Reading}
 use Rattle.history.specs.declared.Reading.TheVariants.{Nothing, Real, Estimated, Own}
 use Rattle.history.specs.declared.Entry.{Entry}
-use Rattle.supply.specs.declared.Amount.{Amount}
-use Rattle.supply.specs.declared.Amount.TheVariants.{Missing, Known}
 
 -- "The history has 0 to 400 entries"
 abbrev pub ENTRIES : ℕ
@@ -97,8 +95,8 @@ unfoldable pub is_new : List Dated → Bool
 is_new xs = is_empty (real_readings xs)
 
 -- the value of a real reading: no other counts
-abbrev pub real_value : Reading → Amount
-real_value Nothing = Missing
-real_value (Real v) = Known v
-real_value (Estimated v) = Missing
-real_value (Own v) = Missing
+abbrev pub real_value : Reading → Option ℕ
+real_value Nothing = None
+real_value (Real v) = Some v
+real_value (Estimated v) = None
+real_value (Own v) = None

@@ -8,38 +8,22 @@ use lib.ListN.{length, take}
 use borrow.Author.Tests.{leb-true}
 use Rattle.numbers.specs.Nearest.{nearest}
 use Rattle.numbers.specs.Sums.{pick}
-use Rattle.numbers.specs.Lists.{both, every, rising}
+use Rattle.numbers.specs.Lists.{both, every}
 use Rattle.numbers.proofs.Lists.{both_fst, both_snd}
 use Rattle.numbers.specs.Refusals.{NO_BASIS}
 use Rattle.calendar.specs.Answers.{refused, given}
-use Rattle.calendar.specs.Days.{calendar_right}
-use Rattle.calendar.proofs.Holidays.{calendar_rising}
-use Rattle.supply.specs.Amounts.{amount_right, flows_right}
 use Rattle.history.specs.History.{ENTRIES, Dated, RealReading, entry_right, history_right, last_three, sum_of, mean_value, looked_at, is_empty, is_new}
 use Rattle.history.specs.Search.{found_in}
-use Rattle.telemetered.specs.Telemetered.{own_right, with_basis, from_history, from_found, values_right}
+use Rattle.telemetered.specs.Telemetered.{with_basis, from_history, from_found, first_of}
 use Rattle.supply.specs.NewConsumer.{new_consumption}
-use Rattle.supply.specs.declared.Amount.{Amount}
-use Rattle.telemetered.specs.declared.OwnValue.{OwnValue}
+use Rattle.std.specs.Prelude.{Option, None, Some}
+use Rattle.std.specs.Option.{option_or}
 use Rattle.supply.specs.declared.Flows.{Flows}
 use Rattle.history.specs.declared.Entry.{Entry}
 
 -- ---- what the tests tell
 
-module _ (d : ℕ) (hs : List ℕ) (reading : Amount) (own : OwnValue) (f : Flows) (h : values_right d hs reading own f ≡ true) where
-  pub values_rising : rising hs ≡ true
-  unfolding values_right
-  values_rising = calendar_rising d hs (both_fst _ _ h)
-
-  pub values_flows : flows_right f ≡ true
-  unfolding values_right
-  values_flows = both_snd (own_right own) _ (both_snd (amount_right reading) _ (both_snd (calendar_right d hs) _ h))
-
 module _ (d n : ℕ) (es : List Entry) (h : history_right d n es ≡ true) where
-  pub history_short : n ≤ ENTRIES
-  unfolding history_right
-  history_short = leb-true n ENTRIES (both_fst _ _ (both_fst _ _ h))
-
   pub history_days : n ≤ d
   unfolding history_right
   history_days = leb-true n d (both_snd (leb n ENTRIES) _ (both_fst _ _ h))
@@ -47,6 +31,11 @@ module _ (d n : ℕ) (es : List Entry) (h : history_right d n es ≡ true) where
   pub history_entries : every entry_right (take n es) ≡ true
   unfolding history_right
   history_entries = both_snd (both (leb n ENTRIES) (leb n d)) _ h
+
+-- the first of two amounts, as the code takes it
+pub first_is : (a b : Option ℕ) → first_of a b ≡ option_or a b
+first_is None b = refl
+first_is (Some v) b = refl
 
 -- ---- what the search leads to
 

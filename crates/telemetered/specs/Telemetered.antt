@@ -1,42 +1,23 @@
 -- Document 01, "Telemetered". Assumes nothing.
-use Rattle.std.specs.Prelude.{Bool, true, not, List, [], ◌∷◌, ℕ, eqb, take}
+use Rattle.std.specs.Prelude.{Bool, not, List, [], ◌∷◌, ℕ, eqb, take, Option, None, Some}
 use Rattle.numbers.specs.Nearest.{nearest}
 use Rattle.numbers.specs.Sums.{pick}
 use Rattle.numbers.specs.Lists.{both}
 use Rattle.numbers.specs.Refusals.{OUT_OF_RANGE, NO_BASIS}
 use Rattle.calendar.specs.Answers.{Answer, refused, given, ◌when◌, tested}
 use Rattle.calendar.specs.Days.{calendar_right}
-use Rattle.supply.specs.Amounts.{in_limit, amount_right, flows_right}
+use Rattle.supply.specs.Amounts.{amount_right, flows_right}
 use Rattle.supply.specs.NewConsumer.{new_consumption}
 use Rattle.history.specs.History.{Dated, history_right, dated, last_three, mean_value, looked_at, is_empty, is_new}
-use Rattle.supply.specs.declared.Amount.{Amount}
-use Rattle.supply.specs.declared.Amount.TheVariants.{Missing, Known}
-use Rattle.telemetered.specs.declared.OwnValue.{OwnValue}
-use Rattle.telemetered.specs.declared.OwnValue.TheVariants.{NotSent, Sent}
 use Rattle.supply.specs.declared.Flows.{Flows}
 use Rattle.history.specs.declared.Entry.{Entry}
 use Rattle.history.specs.declared.Found.{Found}
-use Rattle.telemetered.specs.declared.TelemeteredAnswer.{TelemeteredAnswer}
-use Rattle.telemetered.specs.declared.TelemeteredAnswer.TheVariants.{Refused, Consumption}
-
--- a consumption in kWh, and the entries looked at
-pub record Estimate : Type 0 where
-  pub kwh : ℕ
-  pub looked : ℕ
-
--- the user's own value, if sent: the value to use
-abbrev pub value_to_use : OwnValue → Amount
-value_to_use NotSent = Missing
-value_to_use (Sent v) = Known v
-
-abbrev pub own_right : OwnValue → Bool
-own_right NotSent = true
-own_right (Sent v) = in_limit v
+use Rattle.telemetered.specs.declared.Estimate.{Estimate}
 
 -- an amount, or no basis
-abbrev pub with_basis : Amount → ℕ → Answer Estimate
-with_basis Missing looked = refused NO_BASIS
-with_basis (Known v) looked = given (record { kwh = v; looked = looked })
+abbrev pub with_basis : Option ℕ → ℕ → Answer Estimate
+with_basis None looked = refused NO_BASIS
+with_basis (Some v) looked = given (record { kwh = v; looked = looked })
 
 -- the estimate from a history of n entries: the mean of the last three, or that of a new consumer
 unfoldable pub from_history : List ℕ → ℕ → Flows → ℕ → List Dated → Answer Estimate
@@ -54,31 +35,26 @@ from_found f x =
     (given (record { kwh = nearest x.sum x.matches; looked = x.looked }))
 
 -- the first of two amounts that is there
-abbrev pub first_of : Amount → Amount → Amount
-first_of Missing a = a
-first_of (Known v) a = Known v
+abbrev pub first_of : Option ℕ → Option ℕ → Option ℕ
+first_of None a = a
+first_of (Some v) a = Some v
 
 -- an amount that is there is the answer, with nothing looked at; else what comes after it
-abbrev pub or_else : Amount → Answer Estimate → Answer Estimate
-or_else Missing a = a
-or_else (Known v) a = given (record { kwh = v; looked = 0 })
+abbrev pub or_else : Option ℕ → Answer Estimate → Answer Estimate
+or_else None a = a
+or_else (Some v) a = given (record { kwh = v; looked = 0 })
 
--- everything given is in its range, used or not
-unfoldable pub values_right : ℕ → List ℕ → Amount → OwnValue → Flows → Bool
+-- everything given is in its range, used or not; `own` is the user's own value, if sent
+unfoldable pub values_right : ℕ → List ℕ → Option ℕ → Option ℕ → Flows → Bool
 values_right d hs reading own f =
-    both (calendar_right d hs) (both (amount_right reading) (both (own_right own) (flows_right f)))
+    both (calendar_right d hs) (both (amount_right reading) (both (amount_right own) (flows_right f)))
 
 -- "The reading if there is one; else the user's own value if sent ..; else the mean of the last three real readings on days
 -- of the gas day's type; else, for a new consumer, Q_a / 210 (toll 3.4) or Q_d × f_c"
-unfoldable pub telemetered : ℕ → List ℕ → Amount → OwnValue → Flows → ℕ → List Entry → Answer Estimate
+unfoldable pub telemetered : ℕ → List ℕ → Option ℕ → Option ℕ → Flows → ℕ → List Entry → Answer Estimate
 telemetered d hs reading own f n es =
     tested
     ((OUT_OF_RANGE when not (values_right d hs reading own f))
     ∷ (OUT_OF_RANGE when not (history_right d n es))
     ∷ [])
-    (or_else (first_of reading (value_to_use own)) (from_history hs d f n (dated d (take n es))))
-
--- what each case of the answer stands for
-abbrev pub answer_of : TelemeteredAnswer → Answer Estimate
-answer_of (Refused n) = refused n
-answer_of (Consumption kwh looked) = given (record { kwh = kwh; looked = looked })
+    (or_else (first_of reading own) (from_history hs d f n (dated d (take n es))))

@@ -2,119 +2,70 @@
 #![tactic(auto)]
 
 ghost use Rattle.std.specs.Prelude.{◌≡◌, true};
-ghost use Rattle.supply.specs.Amounts.{flows_right};
-ghost use Rattle.telemetered.specs.Telemetered.{value_to_use, own_right, first_of, from_found, values_right, telemetered, answer_of};
+ghost use Rattle.numbers.specs.Lists.{both};
+ghost use Rattle.calendar.specs.Answers.{answer_of};
+ghost use Rattle.supply.specs.Amounts.{amount_right, flows_right};
+ghost use Rattle.telemetered.specs.Telemetered.{from_found, telemetered};
 
+use calendar::Calendar;
 use history::{ENTRIES, Entry, Found};
-use numbers::{NO_BASIS, OUT_OF_RANGE};
-use supply::{Amount, Flows, LIMIT};
+use numbers::Refusal;
+use supply::Flows;
 
-// The user's own value.
+// A consumption, and the entries of the history that were looked at.
 #[derive(Clone, Copy)]
-pub enum OwnValue {
-    NotSent,
-    Sent(u64),
-}
-
-#[derive(Clone, Copy)]
-pub enum TelemeteredAnswer {
-    Refused(u8),
-    Consumption { kwh: u64, looked: usize },
-}
-
-// The user's own value, if it is to be used.
-fn own_to_use(own: OwnValue) -> Amount
-    ensures { result ≡ value_to_use own }
-{
-    match own {
-        OwnValue::NotSent => Amount::Missing,
-        OwnValue::Sent(v) => Amount::Known(v),
-    }
-}
-
-// Whether the user's own value is in its range.
-fn is_own(own: OwnValue) -> bool
-    ensures { result ≡ own_right own }
-{
-    match own {
-        OwnValue::NotSent => true,
-        OwnValue::Sent(v) => v <= LIMIT,
-    }
-}
-
-// The first of two amounts that is there.
-fn first_known(one: Amount, other: Amount) -> Amount
-    ensures { result ≡ first_of one other }
-{
-    match one {
-        Amount::Missing => other,
-        Amount::Known(v) => Amount::Known(v),
-    }
+pub struct Estimate {
+    pub kwh: u64,
+    pub looked: usize,
 }
 
 // What a search leads to: the mean of the matches, or a new consumer's consumption, or no basis.
-fn from_found(found: Found, flows: Flows) -> TelemeteredAnswer
+#[tactic(auto, unfolding(crate::specs::Telemetered::from_found))]
+fn from_found(found: Found, flows: Flows) -> Result<Estimate, Refusal>
     requires { flows_right flows ≡ true }
     ensures { answer_of result ≡ from_found flows found }
 {
-    if found.matches == 0 {
-        if found.real {
-            return TelemeteredAnswer::Refused(NO_BASIS);
-        }
-        let new = supply::new_consumption(flows);
-        return match new {
-            Amount::Missing => TelemeteredAnswer::Refused(NO_BASIS),
-            Amount::Known(kwh) => TelemeteredAnswer::Consumption {
-                kwh,
-                looked: found.looked,
-            },
-        };
+    let looked = found.looked;
+    if found.matches != 0 {
+        let kwh = numbers::nearest(found.sum, found.matches);
+        return Ok(Estimate { kwh, looked });
     }
-    TelemeteredAnswer::Consumption {
-        kwh: numbers::nearest(found.sum, found.matches),
-        looked: found.looked,
+    if found.real {
+        return Err(Refusal::NoBasis);
+    }
+    match supply::new_consumption(flows) {
+        Some(kwh) => Ok(Estimate { kwh, looked }),
+        None => Err(Refusal::NoBasis),
     }
 }
 
-// Whether everything that is given for a telemetered point is in its range, but for its history.
-fn are_values(day: u32, holidays: &[u32], reading: Amount, own: OwnValue, flows: Flows) -> bool
-    ensures { result ≡ values_right day holidays.now reading own flows }
+// Whether the reading, the user's own value and the contracted flows are in their ranges, or missing.
+fn are_amounts(reading: Option<u64>, own: Option<u64>, flows: Flows) -> bool
+    ensures { result ≡ both (amount_right reading) (both (amount_right own) (flows_right flows)) }
 {
-    if !calendar::is_calendar(day, holidays) {
-        return false;
-    }
-    if !supply::is_amount(reading) {
-        return false;
-    }
-    if !is_own(own) {
-        return false;
-    }
-    supply::are_flows(flows)
+    supply::is_amount(reading) && supply::is_amount(own) && supply::are_flows(flows)
 }
 
-// The consumption of a telemetered supply point on a gas day.
+// The consumption of a telemetered supply point on a gas day, given its reading and the user's own value, if there are any.
+#[tactic(auto, unfolding(crate::specs::Telemetered::telemetered, crate::specs::Telemetered::values_right, calendar::specs::Answers::tested))]
 pub fn telemetered(
     day: u32,
     holidays: &[u32],
-    reading: Amount,
-    own: OwnValue,
+    reading: Option<u64>,
+    own: Option<u64>,
     flows: Flows,
     history: [Entry; ENTRIES],
     count: usize,
-) -> TelemeteredAnswer
+) -> Result<Estimate, Refusal>
     ensures { answer_of result ≡ telemetered day holidays.now reading own flows count history }
 {
-    if !are_values(day, holidays, reading, own, flows) {
-        return TelemeteredAnswer::Refused(OUT_OF_RANGE);
+    let calendar = Calendar::of(day, holidays)?;
+    if !are_amounts(reading, own, flows) {
+        return Err(Refusal::OutOfRange);
     }
-    if !history::is_history(day, history, count) {
-        return TelemeteredAnswer::Refused(OUT_OF_RANGE);
+    let entries = history::counted_entries(day, &history, count)?;
+    if let Some(kwh) = reading.or(own) {
+        return Ok(Estimate { kwh, looked: 0 });
     }
-    let own_value = own_to_use(own);
-    let known = first_known(reading, own_value);
-    if let Amount::Known(kwh) = known {
-        return TelemeteredAnswer::Consumption { kwh, looked: 0 };
-    }
-    let found = history::search(day, holidays, history, count);
-    from_found(found, flows)
+    from_found(history::search(&calendar, entries), flows)
 }

@@ -1,1 +1,1 @@
-pub mod Profiling
+pub mod Products

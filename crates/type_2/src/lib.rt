@@ -22,6 +22,7 @@ const MOST_MONTH: u64 = 1000000000000;
 const KILO: u64 = 1000;
 
 // The consumption of Type 2 consumers of one profile, on a gas day with g degree days, after one or two winters.
+#[tactic(auto, using(crate::proofs::Products::corrected), unfolding(crate::specs::Type2::type_2, crate::specs::Type2::type_2_right, calendar::specs::Answers::tested))]
 pub fn type_2(
     consumers: u32,
     profile: u64,
@@ -54,6 +55,7 @@ pub struct Year {
 
 impl Year {
     // Whether the figures are in their ranges.
+    #[tactic(auto, unfolding(crate::specs::Type2::year_right))]
     fn is_right(self) -> bool
         ensures { result ≡ year_right self.consumption self.consumers self.days }
     {
@@ -65,6 +67,7 @@ impl Year {
 }
 
 // The profile of a month, from its figures in two years.
+#[tactic(auto, using(crate::proofs::Products::product_positive), unfolding(crate::specs::Type2::profile, crate::specs::Type2::year_right, calendar::specs::Answers::tested))]
 pub fn profile(one: Year, two: Year) -> Result<u64, Refusal>
     ensures { answer_of result ≡ profile one.consumption two.consumption one.consumers two.consumers one.days two.days }
 {
