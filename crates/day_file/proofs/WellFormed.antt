@@ -1,23 +1,19 @@
 -- What each test of a day file settles. Assumes nothing.
-use mathlib.Core.Path.{◌≡◌, refl, sym, ap, ◌∙◌}
+use mathlib.Core.Path.{◌≡◌, sym, ap, ◌∙◌}
 use mathlib.Core.Bool.{Bool, true, false}
 use mathlib.Core.List.{List}
-use Prim.Native.Nat.{ℕ, ◌≤◌, ◌<◌}
+use Prim.Native.Nat.{ℕ, ◌+◌, ◌*◌, ◌≤◌, ◌<◌}
 use native.Mathlib.Omega.{arith}
 use lib.Dec.{leb}
 use lib.ListN.{length}
 use borrow.Author.Tests.{le-leb, lt-leb, leb-true}
-use Rattle.numbers.specs.Sums.{pick}
 use Rattle.numbers.specs.Lists.{both, every}
 use Rattle.numbers.proofs.Sums.{length_table, getD_table}
 use Rattle.numbers.proofs.Lists.{both_fst, both_snd}
 use Rattle.numbers.proofs.Places.{every_at}
-use Rattle.std.specs.Prelude.{Result, Ok, Err}
-use Rattle.numbers.specs.declared.Refusal.{Refusal}
-use Rattle.numbers.specs.declared.Refusal.TheVariants.{Malformed}
 use Rattle.day_file.specs.declared.Header.{Header}
 use Rattle.day_file.specs.declared.Section.{Section}
-use Rattle.day_file.specs.Form.{MOST_BYTES, HEADER, USER, has_mark, header_of, pair_count, pairs_end, section_at, sections, end_of, is_whole, sorted, none_overlap, after_pairs, inside, sections_right, well_formed, decoded}
+use Rattle.day_file.specs.Form.{MOST_BYTES, HEADER, USER, PAIR, has_mark, header_of, pair_count, pairs_start, pairs_end, section_at, sections, end_of, is_whole, sorted, none_overlap, after_pairs, inside, sections_right, well_formed}
 
 module _ (f : List ℕ) where
   pub too_long : MOST_BYTES < length f → false ≡ well_formed f
@@ -35,38 +31,24 @@ module _ (f : List ℕ) where
       unmarked e = rw (le-leb (length f) MOST_BYTES h, le-leb HEADER (length f) k, e)
 
       module _ (e : has_mark f ≡ true) where
-        pub pairs_cut : length f < pairs_end f → false ≡ well_formed f
-        unfolding well_formed
-        pairs_cut l = rw (le-leb (length f) MOST_BYTES h, le-leb HEADER (length f) k, e, lt-leb (pairs_end f) (length f) l)
+        module _ {r : Header} (q : r ≡ header_of f) where
+          pairs : r.pairs ≡ pairs_start f
+          pairs = ap (λ (x : Header). x.pairs) q
 
-        pub by_sections : pairs_end f ≤ length f → sections_right f (sections f) ≡ well_formed f
-        unfolding well_formed
-        by_sections l = rw (le-leb (length f) MOST_BYTES h, le-leb HEADER (length f) k, e, le-leb (pairs_end f) (length f) l)
+          count : r.sections ≡ pair_count f
+          count = ap (λ (x : Header). x.sections) q
 
--- ---- what the bytes are
+          pub pairs_cut : length f < r.pairs + PAIR * r.sections → false ≡ well_formed f
+          unfolding well_formed
+          pairs_cut l =
+              let m : length f < pairs_end f = omega (arith, pairs, count) in
+              rw (le-leb (length f) MOST_BYTES h, le-leb HEADER (length f) k, e, lt-leb (pairs_end f) (length f) m)
 
-module _ (f : List ℕ) where
-  pub malformed : false ≡ well_formed f → Err Malformed ≡ decoded f
-  malformed e = ap (λ b. pick b (Ok (header_of f)) (Err Malformed)) e
-
-  pub day_file : well_formed f ≡ true → {h : Header} → h ≡ header_of f → Ok h ≡ decoded f
-  day_file e q = ap Ok q ∙ sym (ap (λ b. pick b (Ok (header_of f)) (Err Malformed)) e)
-
-  -- a file that is refused
-  pub is_malformed : {r : Refusal} → Err r ≡ decoded f → (well_formed f ≡ false) × (r ≡ Malformed)
-  is_malformed {r} e = go (well_formed f) refl
-    where
-      go : (b : Bool) → well_formed f ≡ b → (well_formed f ≡ false) × (r ≡ Malformed)
-      go true w = absurd (let z : Err r ≡ Ok (header_of f) = rw w at e in cc)
-      go false w = (w, let z : Err r ≡ Err Malformed = rw w at e in cc)
-
-  -- a file with a header
-  pub is_well_formed : {h : Header} → Ok h ≡ decoded f → (well_formed f ≡ true) × (h ≡ header_of f)
-  is_well_formed {h} e = go (well_formed f) refl
-    where
-      go : (b : Bool) → well_formed f ≡ b → (well_formed f ≡ true) × (h ≡ header_of f)
-      go true w = (w, let z : Ok h ≡ Ok (header_of f) = rw w at e in cc)
-      go false w = absurd (let z : Ok h ≡ Err Malformed = rw w at e in cc)
+          pub by_sections : r.pairs + PAIR * r.sections ≤ length f → sections_right f (sections f) ≡ well_formed f
+          unfolding well_formed
+          by_sections l =
+              let m : pairs_end f ≤ length f = omega (arith, pairs, count) in
+              rw (le-leb (length f) MOST_BYTES h, le-leb HEADER (length f) k, e, le-leb (pairs_end f) (length f) m)
 
 -- ---- what holds of a well-formed file
 

@@ -1,9 +1,7 @@
 -- Document 01, section "Day file and inventory": what a day file is. Assumes nothing.
-use Rattle.std.specs.Prelude.{Bool, true, List, [], ◌∷◌, ℕ, ◌+◌, ◌-◌, ◌*◌, ◌/◌, ◌%◌, leb, eqb, length, Result, Ok, Err}
-use Rattle.numbers.specs.Sums.{table, at, pick}
+use Rattle.std.specs.Prelude.{Bool, true, List, [], ◌∷◌, ℕ, ◌+◌, ◌-◌, ◌*◌, ◌/◌, ◌%◌, leb, eqb, length}
+use Rattle.numbers.specs.Sums.{table, at}
 use Rattle.numbers.specs.Lists.{both, either, every}
-use Rattle.numbers.specs.declared.Refusal.{Refusal}
-use Rattle.numbers.specs.declared.Refusal.TheVariants.{Malformed}
 use Rattle.wire.specs.Bytes.{little_endian}
 use Rattle.day_file.specs.declared.Header.{Header}
 use Rattle.day_file.specs.declared.Section.{Section}
@@ -126,7 +124,3 @@ well_formed f =
     both (leb (length f) MOST_BYTES)
     (both (leb HEADER (length f))
     (both (has_mark f) (both (leb (pairs_end f) (length f)) (sections_right f (sections f)))))
-
--- the header of a well-formed file
-abbrev pub decoded : List ℕ → Result Header Refusal
-decoded f = pick (well_formed f) (Ok (header_of f)) (Err Malformed)

@@ -1,9 +1,10 @@
 // The form of a day file, and what its header and pairs say.
 #![tactic(auto)]
 
-ghost use Rattle.std.specs.Prelude.{◌≡◌, ◌+◌, ◌-◌, ◌*◌, ◌%◌, ◌≤◌, ◌<◌, leb, eqb, length};
-ghost use Rattle.numbers.specs.Lists.{both};
-ghost use Rattle.day_file.specs.Form.{HEADER, PAIR, USER, LINE, header_of, pair_count, pairs_start, pairs_end, section_from, sections, sections_right, decoded};
+ghost use Rattle.std.specs.Prelude.{◌≡◌, true, ◌+◌, ◌*◌, ◌≤◌, ◌<◌, length, IfOk};
+ghost use Rattle.numbers.specs.Sums.{pick};
+ghost use Rattle.numbers.specs.Refusals.{MALFORMED, status_of};
+ghost use Rattle.day_file.specs.Form.{HEADER, PAIR, USER, is_whole, line_count, end_of, header_of, pair_count, pairs_start, pairs_end, section_from, section_at, sections, sections_right, well_formed};
 
 use numbers::Refusal;
 
@@ -58,11 +59,41 @@ pub struct Section {
     pub size: usize,
 }
 
-// Whether a section of this size is whole: a user, then lines.
-fn is_whole(size: usize) -> bool
-    ensures { result ≡ both (leb USER size) (eqb ((size - USER) % LINE) 0) }
-{
-    USER <= size && (size - USER) % LINE == 0
+impl Section {
+    // Whether it is whole: a user, then lines.
+    fn is_whole(self) -> bool
+        ensures { result ≡ is_whole self }
+    {
+        USER <= self.size && (self.size - USER) % LINE == 0
+    }
+
+    // How many lines it has.
+    pub fn lines(self) -> usize
+        requires { USER ≤ self.size }
+        ensures { result ≡ line_count self }
+    {
+        (self.size - USER) / LINE
+    }
+}
+
+// A day file: its bytes and its header.
+#[derive(Clone, Copy)]
+pub struct DayFile<'a> {
+    pub bytes: &'a [u8],
+    pub header: Header,
+    pub ghost right: { well_formed bytes.now ≡ true },
+    pub ghost read: { header ≡ header_of bytes.now },
+}
+
+impl DayFile<'_> {
+    // The section of pair i.
+    pub fn section(&self, i: usize) -> Section
+        requires { i < pair_count self.now.bytes.now }
+        ensures value { result ≡ section_at self.now.bytes.now i }
+        ensures inside { (USER ≤ result.size) × (end_of result ≤ length self.now.bytes.now) }
+    {
+        section_at(self.bytes, self.header.pairs, i)
+    }
 }
 
 // The header of a file that is long enough for one.
@@ -70,24 +101,24 @@ fn read_header(file: &[u8]) -> Header
     requires { HEADER ≤ length file.now }
     ensures { (result ≡ header_of file.now) × (result.sections < 65536) }
 {
-    let sections = wire::read_u16(file, PAIR_COUNT) as usize;
+    let sections = wire::read::<2>(file, PAIR_COUNT) as usize;
     Header {
-        day: wire::read_u32(file, GAS_DAY),
-        emission: wire::read_u32(file, EMISSION),
-        downstream: wire::read_u32(file, DOWNSTREAM),
+        day: wire::read::<4>(file, GAS_DAY),
+        emission: wire::read::<4>(file, EMISSION),
+        downstream: wire::read::<4>(file, DOWNSTREAM),
         sections,
         pairs: HEADER,
     }
 }
 
 // The section of pair i, of pairs that begin at a place.
-pub fn section_at(file: &[u8], pairs: usize, i: usize) -> Section
+fn section_at(file: &[u8], pairs: usize, i: usize) -> Section
     requires { pairs + PAIR * (i + 1) ≤ length file.now }
     ensures { (result ≡ section_from file.now pairs i) × (result.offset < 4294967296) × (result.size < 4294967296) }
 {
     let at = pairs + PAIR * i;
-    let offset = wire::read_u32(file, at) as usize;
-    let size = wire::read_u32(file, at + SIZE) as usize;
+    let offset = wire::read::<4>(file, at) as usize;
+    let size = wire::read::<4>(file, at + SIZE) as usize;
     Section { offset, size }
 }
 
@@ -99,7 +130,7 @@ fn are_sections(file: &[u8], pairs: usize, count: usize) -> bool
     let mut end = pairs + PAIR * count;
     for i in 0..count {
         let section = section_at(file, pairs, i);
-        if section.offset < end || !is_whole(section.size) {
+        if section.offset < end || !section.is_whole() {
             return false;
         }
         end = section.offset + section.size;
@@ -110,9 +141,10 @@ fn are_sections(file: &[u8], pairs: usize, count: usize) -> bool
     true
 }
 
-// The header of a day file. Its form is tested, and its header read, here and nowhere else.
-pub fn decode(file: &[u8]) -> Result<Header, Refusal>
-    ensures { result ≡ decoded file.now }
+// The day file that the bytes are. Their form is tested, and their header read, here and nowhere else.
+pub fn decode(file: &[u8]) -> Result<DayFile, Refusal>
+    ensures status { status_of result ≡ pick (well_formed file.now) 0 MALFORMED }
+    ensures bytes { IfOk result (λ d. d.bytes.now ≡ file.now) }
 {
     if MOST_BYTES < file.len() || file.len() < HEADER || !file.starts_with(&MARK) {
         return Err(Refusal::Malformed);
@@ -123,5 +155,8 @@ pub fn decode(file: &[u8]) -> Result<Header, Refusal>
     {
         return Err(Refusal::Malformed);
     }
-    Ok(header)
+    Ok(DayFile {
+        bytes: file,
+        header,
+    })
 }
