@@ -1,23 +1,22 @@
 -- Histories with the same entries. Assumes nothing.
-use mathlib.Core.Path.{◌≡◌, refl}
+use mathlib.Core.Path.{◌≡◌}
 use Rattle.std.specs.Prelude.{Option}
-use mathlib.Core.List.{List, [], ◌∷◌}
+use mathlib.Core.List.{List}
 use mathlib.Core.Logic.{⊎_elim}
-use Prim.Native.Nat.{ℕ, ◌+◌, ◌<◌}
+use Prim.Native.Nat.{ℕ, ◌<◌}
 use native.Mathlib.Omega.{arith}
 use lib.ListN.{length, take}
 use lib.Seq.{take_all}
 use borrow.Author.Tests.{lt-leb}
-use Rattle.numbers.specs.Sums.{at, table}
+use Rattle.numbers.specs.Sums.{table}
 use Rattle.numbers.proofs.Sums.{cases, length_table}
 use Rattle.numbers.specs.Refusals.{OUT_OF_RANGE}
 use Rattle.calendar.specs.Answers.{refused, tested}
 use Rattle.history.specs.History.{ENTRIES, history_right}
-use Rattle.supply.specs.Amounts.{LIMIT}
 use Rattle.telemetered.specs.Telemetered.{values_right, telemetered}
 use Rattle.supply.specs.declared.Flows.{Flows}
 use Rattle.history.specs.declared.Entry.{Entry}
-use Rattle.plain_values.specs.Lists.{amount_in, entry_in, entries_in}
+use Rattle.plain_values.specs.Lists.{entry_in, entries_in}
 
 -- ---- two histories with the same entries that count give the same answer, and one that is too long is refused
 

@@ -57,7 +57,8 @@ fn are_last_days(day: u32, last_days: &[u32]) -> bool
     ensures { result ≡ last_days_right day last_days.now }
 {
     let month = months::month_of_day(day);
-    last_days.len() == months::days_last_year(month) as usize && temperature::are_all_degrees(last_days)
+    last_days.len() == months::days_last_year(month) as usize
+        && temperature::are_all_degrees(last_days)
 }
 
 // Whether the coefficients of the other tolls are in their ranges.
@@ -91,7 +92,10 @@ pub fn toll_34(point: &Toll34) -> Result<u64, Refusal>
     let mean = temperature::mean_of(point.last_days);
     let correction = temperature::correction_of(point.g, mean);
     let basis = month_consumption::month_of_34(
-        point.last_year, correction, point.last_month, point.year_flow,
+        point.last_year,
+        correction,
+        point.last_month,
+        point.year_flow,
     );
     let month = months::month_of_day(point.day);
     day_share::day_of_month(basis, 1, month.days as u64)
@@ -110,10 +114,19 @@ pub fn other_toll(point: &OtherToll) -> Result<u64, Refusal>
     }
     let month = months::month_of_day(point.day);
     let basis = month_consumption::month_of_other(
-        point.last_year, point.c_c, point.last_month, point.day_flow, point.f_c, month.days,
+        point.last_year,
+        point.c_c,
+        point.last_month,
+        point.day_flow,
+        point.f_c,
+        month.days,
     );
     let working = calendar.day_type().is_working();
     let lab = months::working_days(month, &calendar);
     let days = day_share::days_for(working, month.days, lab);
-    day_share::day_of_month(basis, day_share::part_for(working, point.c_f), THOUSAND * days)
+    day_share::day_of_month(
+        basis,
+        day_share::part_for(working, point.c_f),
+        THOUSAND * days,
+    )
 }

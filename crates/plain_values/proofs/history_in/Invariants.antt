@@ -1,4 +1,4 @@
-use Prim.Native.Nat.{◌-◌, ◌≤◌}
+use Prim.Native.Nat.{◌≤◌}
 use lib.ListN.{length}
 use Rattle.numbers.proofs.Filled.{Filled}
 use Rattle.plain_values.specs.Lists.{entry_in}
