@@ -11,12 +11,12 @@ use Rattle.point_day.specs.Limits.{USERS}
 use Rattle.point_day.proofs.Taken.{taken_facts}
 use Rattle.state.specs.Places.{whole_at}
 use Rattle.taken.proofs.Facts.{facts, taken_summable, first_wholes}
-use Rattle.allot.specs.Allotted.{Balanced}
+use Rattle.allot.specs.Allotted.{Tested}
 use Rattle.allot.specs.Shared.{shares_of}
 use Rattle.allot.proofs.shares.Sharing.{shares_long}
 use Rattle.allot.proofs.balance.Cells.{none_long}
 use Rattle.allot.proofs.OfParts.{is_of_parts, allottable_parts}
-use Rattle.allot.proofs.Outcomes.{filled_long, cells_in_range, balances_small, large_after, users_are, sum_small, difference_is, balance_small, cells_left}
+use Rattle.allot.proofs.Outcomes.{filled_long, cells_in_range, balances_small, large_after, users_are, sum_small, difference_is, balance_small, cells_left, allot_12, allot_done, fails, passes}
 use Rattle.allot.proofs.cells_test.Goals as goal
 
 pub net-requires : goal.net-requires
@@ -47,7 +47,7 @@ balance_cells-requires c =
     let b = c.minus-day_balance.ensures ∙ difference_is _ z t a.entering net.0 net.1 k.sum in
     let small = balance_small _ z t a.entering a.measured a.users in
     let f = facts _ z t in
-    let room : length c.args.state.wholes ≡ USERS = search rules in record { within = (rw (b, back small (omega arith)) small, z.users, none_long c.requires.1); n_nonzero = (omega (arith, a.users), f.few, f.apart, omega (arith, f.few, room)) }
+    let room : length c.args.state.now.wholes ≡ USERS = search rules in record { within = (rw (b, back small (omega arith)) small, z.users, none_long c.requires.1); n_nonzero = (omega (arith, a.users), f.few, f.apart, omega (arith, f.few, room)) }
 
 pub whole_amounts-requires : goal.whole_amounts-requires
 whole_amounts-requires c =
@@ -60,7 +60,7 @@ whole_amounts-requires c =
     let long : length c.balance_cells.new.cells ≡ length c.args.cells.now = search rules in
     let w = cells_left _ z t a.entering a.measured a.users net.0 net.1 k.sum c.minus-day_balance.ensures c.requires.1 c.balance_cells.ensures.cells_after in
     let l = taken_summable _ z t in
-    let enough = filled_long (shares_of _ c.args.consumption.now c.args.losses.now c.args.state.users c.args.state.count) _ (shares_long _ c.args.consumption.now c.args.losses.now c.args.state.users c.args.state.count) c.balance_cells.ensures.shares_after in (
+    let enough = filled_long (shares_of _ c.args.consumption.now c.args.losses.now c.args.state.now.users c.args.state.now.count) _ (shares_long _ c.args.consumption.now c.args.losses.now c.args.state.now.users c.args.state.now.count) c.balance_cells.ensures.shares_after in (
       l.few,
       enough,
       l.consumption,
@@ -74,24 +74,36 @@ pub slice_bounds-shares-end : goal.slice_bounds-shares-end
 slice_bounds-shares-end c =
     let a = c.args in
     let f = whole_at a.consumption.now a.losses.now c.balance_cells.new.cells a.revision.now in
-    filled_long (table f a.state.count) _ (length_table f a.state.count) c.whole_amounts.ensures
+    filled_long (table f a.state.now.count) _ (length_table f a.state.now.count) c.whole_amounts.ensures
 
 pub slice_bounds-wholes_too_large-end : goal.slice_bounds-wholes_too_large-end
 slice_bounds-wholes_too_large-end c =
     let a = c.args in
     let f = whole_at a.consumption.now a.losses.now c.balance_cells.new.cells a.revision.now in
-    sym (ap length (first_wholes f a.state.count _ c.whole_amounts.ensures) ∙ length_table f a.state.count)
+    sym (ap length (first_wholes f a.state.now.count _ c.whole_amounts.ensures) ∙ length_table f a.state.now.count)
+
+pub returns-then-wholes_too_large : goal.returns-then-wholes_too_large
+returns-then-wholes_too_large c d h =
+    let a = allottable_parts h in
+    let k = a.has.known in
+    let net = c.net.ensures in
+    let bs = c.balance_cells.new.cells in
+    let long : length bs ≡ length c.args.cells.now = search rules in
+    let w = cells_left _ k.sized k.is_taken a.entering a.measured a.users net.0 net.1 k.sum c.minus-day_balance.ensures c.requires.1 c.balance_cells.ensures.cells_after in
+    let f = whole_at c.args.consumption.now c.args.losses.now bs c.args.revision.now in
+    let large = large_after _ k.sized k.is_taken a.entering (users_are _ k.sized k.is_taken a.users) bs w (long ∙ none_long c.requires.1) _ (first_wholes f c.args.state.now.count _ c.whole_amounts.ensures) in
+    let o = allot_12 _ k.sized k.is_taken a.entering a.measured a.users (sym large ∙ sym c.wholes_too_large.ensures ∙ c.if-wholes_too_large.true) in
+    subst⁻¹ (λ x. Tested bs x 12) (is_of_parts h.has) (fails bs _ 11 o)
 
 pub returns : goal.returns
 returns c d h =
     let a = allottable_parts h in
     let k = a.has.known in
-    let z = k.sized in
-    let t = k.is_taken in
     let net = c.net.ensures in
     let bs = c.balance_cells.new.cells in
-    let long : length c.balance_cells.new.cells ≡ length c.args.cells.now = search rules in
-    let w = cells_left _ z t a.entering a.measured a.users net.0 net.1 k.sum c.minus-day_balance.ensures c.requires.1 c.balance_cells.ensures.cells_after in
-    let f = whole_at c.args.consumption.now c.args.losses.now c.balance_cells.new.cells c.args.revision.now in
-    let large = large_after _ z t a.entering (users_are _ z t a.users) bs w (long ∙ none_long c.requires.1) _ (first_wholes f c.args.state.count _ c.whole_amounts.ensures) in
-    subst⁻¹ (λ x. Balanced bs x c.wholes_too_large.result) (is_of_parts h.has) (record { cells = w; large = c.wholes_too_large.ensures ∙ large })
+    let long : length bs ≡ length c.args.cells.now = search rules in
+    let w = cells_left _ k.sized k.is_taken a.entering a.measured a.users net.0 net.1 k.sum c.minus-day_balance.ensures c.requires.1 c.balance_cells.ensures.cells_after in
+    let f = whole_at c.args.consumption.now c.args.losses.now bs c.args.revision.now in
+    let large = large_after _ k.sized k.is_taken a.entering (users_are _ k.sized k.is_taken a.users) bs w (long ∙ none_long c.requires.1) _ (first_wholes f c.args.state.now.count _ c.whole_amounts.ensures) in
+    let o = allot_done _ k.sized k.is_taken a.entering a.measured a.users (sym large ∙ sym c.wholes_too_large.ensures ∙ c.if-wholes_too_large.false) w in
+    subst⁻¹ (λ x. Tested bs x 0) (is_of_parts h.has) (passes bs _ record { is = o; taken = k.is_taken })
