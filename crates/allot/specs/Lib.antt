@@ -1,4 +1,5 @@
 pub mod Allotted
 pub mod UserWeights
+pub mod Basis
 pub mod Shared
 pub mod Slots

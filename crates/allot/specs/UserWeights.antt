@@ -6,7 +6,6 @@ use Rattle.point_day.specs.Limits.{CELLS, LIMIT}
 use Rattle.point_day.specs.Day.{User, empty_user, with_consumption, with_losses}
 use Rattle.point_day.specs.Calls.{by_basis}
 use Rattle.point_day.specs.Struct.{kinds_of}
-use Rattle.allot.specs.declared.weights.Basis.{Basis}
 
 -- a list of consumption or losses: each cell lies in 0 to 1,000,000,000
 pub record InRange (xs : List ℤ) : Type 0 where
@@ -38,7 +37,3 @@ by_all_kinds cs ls n = eqb (total (weights false cs ls n)) 0
 -- the weights that count
 abbrev pub basis_weights : List ℤ → List ℤ → ℕ → List ℕ
 basis_weights cs ls n = weights (by_all_kinds cs ls n) cs ls n
-
--- which kinds count, and the sum of the weights that count, W
-abbrev pub basis : List ℤ → List ℤ → ℕ → Basis
-basis cs ls n = record { all = by_all_kinds cs ls n; total = total (basis_weights cs ls n) }

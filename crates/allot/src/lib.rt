@@ -17,6 +17,7 @@ ghost use Rattle.allot.specs.Allotted.{with_balances, Tested, Has, Allottable, B
 
 use point_day::{Answer, CELLS, Outcome, PointDay};
 use taken::StateTest;
+use weights::Offtakes;
 
 // The balance of an entering point-day with these cells and revisions over its users and kinds, into cells of zeros; whether a whole amount
 // is then too large.
@@ -35,15 +36,11 @@ fn cells_test<'a>(
     let mut shares = state.wholes;
     let measurement = state.measurement;
     let day_balance = numbers::minus(state::net(measurement) as i64, state.sum);
-    balance::balance_cells(
-        day_balance,
-        consumption,
-        losses,
-        &users,
-        n,
-        &mut shares,
-        cells,
-    );
+    let offtakes = Offtakes {
+        consumption: consumption,
+        losses: losses,
+    };
+    balance::balance_cells(day_balance, &offtakes, &users, n, &mut shares, cells);
     state::whole_amounts(consumption, losses, cells, revision, n, &mut shares);
     taken::wholes_too_large(&shares[..n])
 }
@@ -95,7 +92,7 @@ pub fn allot(day: PointDay) -> Outcome
     ensures { outcome (answer_of result.answer) result.day ≡ called allot day }
 {
     let state = taken::test_day(day);
-    let mut cells = point_day::no_cells();
+    let mut cells = numbers::repeat::<i64, CELLS>(0);
     let number = allot_test(
         state,
         &day.consumption,

@@ -7,35 +7,35 @@ ghost use Rattle.proration.specs.Proration.{LARGEST_WEIGHT, prorateZ};
 ghost use Rattle.point_day.specs.Limits.{USERS, KINDS, LIMIT};
 ghost use Rattle.point_day.specs.Calls.{or_kind_1, kinds};
 ghost use Rattle.allot.specs.UserWeights.{CellsInRange, by_all_kinds, basis_weights};
+ghost use Rattle.allot.specs.Basis.{are_all};
 ghost use Rattle.allot.specs.Shared.{shares_of};
 
-use super::weights;
-use point_day::KINDS;
+use super::weights::{Kinds, Offtakes};
+use point_day::{KINDS, USERS};
 
 // The shares of the balance of as many users as there is room for weights, which `ws` then holds; later shares stay. `keys` is scratch.
-// Answers whether the weights are of all kinds.
+// Returns the kinds that the weights are of.
 pub fn share_by<'a>(
     balance: i64,
-    consumption: &'a [i64],
-    losses: &'a [i64],
+    offtakes: &Offtakes<'a>,
     users: &'a [u16],
     keys: &mut [u64],
     ws: &mut [u64],
     shares: &mut [i64],
-) -> bool
-    requires within { Within LIMIT balance × CellsInRange consumption.now losses.now × (length users.now ≡ USERS) }
+) -> Kinds
+    requires within { Within LIMIT balance × (length users.now ≡ USERS) }
     requires ws_nonzero { (0 < length ws.old) × (length ws.old ≤ USERS) × (length keys.old ≡ length ws.old) × (length ws.old ≤ length shares.old) }
-    ensures value { result ≡ by_all_kinds consumption.now losses.now (length ws.old) }
-    ensures ws_after { ws.new ≡ basis_weights consumption.now losses.now (length ws.old) }
-    ensures shares_after { shares.new ≡ shares_of balance consumption.now losses.now users.now (length ws.old) ++ drop (length ws.old) shares.old }
+    ensures value { are_all result ≡ by_all_kinds offtakes.now.consumption.now offtakes.now.losses.now (length ws.old) }
+    ensures ws_after { ws.new ≡ basis_weights offtakes.now.consumption.now offtakes.now.losses.now (length ws.old) }
+    ensures shares_after { shares.new ≡ shares_of balance offtakes.now.consumption.now offtakes.now.losses.now users.now (length ws.old) ++ drop (length ws.old) shares.old }
 {
     columns::keys_of(users, keys);
-    let basis = weights::weigh(consumption, losses, ws);
+    let basis = offtakes.weigh(ws);
     split::prorate_signed(balance, ws, basis.total, keys, shares);
-    basis.all
+    basis.kinds
 }
 
-// The shares of n users of the balance; later shares stay. Answers whether the weights are of all kinds.
+// The shares of n users of the balance; later shares stay. Returns the kinds that the weights are of.
 pub fn share_out<'a>(
     balance: i64,
     consumption: &'a [i64],
@@ -43,18 +43,21 @@ pub fn share_out<'a>(
     users: &'a [u16],
     n: usize,
     shares: &mut [i64],
-) -> bool
+) -> Kinds
     requires within { Within LIMIT balance × CellsInRange consumption.now losses.now × (length users.now ≡ USERS) }
     requires n_nonzero { (0 < n) × (n ≤ USERS) × (n ≤ length shares.old) }
-    ensures value { result ≡ by_all_kinds consumption.now losses.now n }
+    ensures value { are_all result ≡ by_all_kinds consumption.now losses.now n }
     ensures shares_after { shares.new ≡ shares_of balance consumption.now losses.now users.now n ++ drop n shares.old }
 {
-    let mut keys = columns::column();
-    let mut ws = columns::column();
+    let offtakes = Offtakes {
+        consumption: consumption,
+        losses: losses,
+    };
+    let mut keys = numbers::repeat::<u64, USERS>(0);
+    let mut ws = numbers::repeat::<u64, USERS>(0);
     share_by(
         balance,
-        consumption,
-        losses,
+        &offtakes,
         users,
         &mut keys[..n],
         &mut ws[..n],

@@ -1,100 +1,103 @@
 // The weights of a point-day's users and of their kinds: consumption plus losses of kinds 2 to 5, or of all kinds.
 ghost use Rattle.std.specs.Prelude.{◌≡◌, ◌+◌, ◌≤◌, ◌<◌, nat_abs, length};
-ghost use Rattle.numbers.specs.Sums.{pick, atZ, Bounded};
+ghost use Rattle.numbers.specs.Sums.{atZ, total, Bounded};
 ghost use Rattle.proration.specs.Proration.{LARGEST_WEIGHT};
 ghost use Rattle.point_day.specs.Limits.{USERS, CELLS};
 ghost use Rattle.point_day.specs.Calls.{by_basis};
-ghost use Rattle.allot.specs.UserWeights.{CellsInRange, consumption_and_losses, weight_at, weights, basis_weights, basis};
+ghost use Rattle.allot.specs.UserWeights.{CellsInRange, consumption_and_losses, weight_at, weights, by_all_kinds, basis_weights};
 
 use point_day::KINDS;
 
-// Consumption plus losses of a cell.
-fn cell<'a>(consumption: &'a [i64], losses: &'a [i64], i: usize) -> u64
-    requires { (i < CELLS) × CellsInRange consumption.now losses.now }
-    ensures value { result ≡ nat_abs (atZ consumption.now i) + nat_abs (atZ losses.now i) }
-    ensures upper_bound { result ≤ LARGEST_WEIGHT }
-{
-    (consumption[i] + losses[i]) as u64
+// The kinds that the weights are of.
+#[derive(Clone, Copy, Debug, PartialEq, Eq)]
+pub enum Kinds {
+    From2To5,
+    All,
 }
 
-// The same, or 0.
-fn cell_if<'a>(counts: bool, consumption: &'a [i64], losses: &'a [i64], i: usize) -> u64
-    requires { (i < CELLS) × CellsInRange consumption.now losses.now }
-    ensures value { result ≡ pick counts (nat_abs (atZ consumption.now i) + nat_abs (atZ losses.now i)) 0 }
-    ensures upper_bound { result ≤ LARGEST_WEIGHT }
-{
-    if counts {
-        cell(consumption, losses, i)
-    } else {
-        0
-    }
-}
-
-// The weights of a user's kinds: consumption plus losses of all kinds, or of kinds 2 to 5.
-pub fn kind_weights<'a>(
-    all: bool,
-    consumption: &'a [i64],
-    losses: &'a [i64],
-    slot: usize,
-) -> [u64; KINDS]
-    requires { (slot < USERS) × CellsInRange consumption.now losses.now }
-    ensures value { result ≡ by_basis all (consumption_and_losses consumption.now losses.now slot) }
-    ensures bounded { Bounded LARGEST_WEIGHT result }
-{
-    let i = KINDS * slot;
-    let b = cell(consumption, losses, i + 1);
-    let c = cell(consumption, losses, i + 2);
-    let d = cell(consumption, losses, i + 3);
-    let e = cell(consumption, losses, i + 4);
-    let a = cell_if(all, consumption, losses, i);
-    [a, b, c, d, e]
-}
-
-// A user's weight.
-fn user_weight<'a>(all: bool, consumption: &'a [i64], losses: &'a [i64], slot: usize) -> u64
-    requires { (slot < USERS) × CellsInRange consumption.now losses.now }
-    ensures { result ≡ weight_at all consumption.now losses.now slot }
-{
-    let ws = kind_weights(all, consumption, losses, slot);
-    proration::weight_total(&ws)
-}
-
-// The weights of as many users as there is room for.
-fn weights_by<'a>(all: bool, consumption: &'a [i64], losses: &'a [i64], ws: &mut [u64])
-    requires { (length ws.old ≤ USERS) × CellsInRange consumption.now losses.now }
-    ensures { ws.new ≡ weights all consumption.now losses.now (length ws.old) }
-{
-    let mut s = 0;
-    while s < ws.len() {
-        ws[s] = user_weight(all, consumption, losses, s);
-        s += 1;
-    }
-}
-
-// Which kinds the weights are of, all or 2 to 5, and the sum of the weights, W.
+// The kinds that the weights are of, and the sum of the weights, W.
 #[derive(Clone, Copy)]
 pub struct Basis {
-    pub all: bool,
+    pub kinds: Kinds,
     pub total: u64,
 }
 
-// The users' weights, of kinds 2 to 5 or, if these are zero for all users, of all kinds.
-pub fn weigh<'a>(consumption: &'a [i64], losses: &'a [i64], ws: &mut [u64]) -> Basis
-    requires { (length ws.old ≤ USERS) × CellsInRange consumption.now losses.now }
-    ensures value { result ≡ basis consumption.now losses.now (length ws.old) }
-    ensures ws_after { ws.new ≡ basis_weights consumption.now losses.now (length ws.old) }
-{
-    weights_by(false, consumption, losses, ws);
-    let total = proration::weight_total(ws);
-    if total != 0 {
-        return Basis {
-            all: false,
-            total: total,
-        };
+// Consumption and losses of a point-day's cells: each in its range, and together too.
+#[derive(Clone, Copy)]
+pub struct Offtakes<'a> {
+    pub consumption: &'a [i64],
+    pub losses: &'a [i64],
+    pub ghost in_range: { CellsInRange consumption.now losses.now },
+}
+
+impl<'a> Offtakes<'a> {
+    ghost use Rattle.allot.specs.Basis.{are_all};
+
+    // Consumption plus losses of a cell.
+    fn cell(&self, i: usize) -> u64
+        requires { i < CELLS }
+        ensures value { result ≡ nat_abs (atZ self.now.consumption.now i) + nat_abs (atZ self.now.losses.now i) }
+        ensures upper_bound { result ≤ LARGEST_WEIGHT }
+    {
+        (self.consumption[i] + self.losses[i]) as u64
     }
-    weights_by(true, consumption, losses, ws);
-    Basis {
-        all: true,
-        total: proration::weight_total(ws),
+
+    // The weights of a user's kinds.
+    pub fn kind_weights(&self, kinds: Kinds, slot: usize) -> [u64; KINDS]
+        requires { slot < USERS }
+        ensures value { result ≡ by_basis (are_all kinds) (consumption_and_losses self.now.consumption.now self.now.losses.now slot) }
+        ensures bounded { Bounded LARGEST_WEIGHT result }
+    {
+        let i = KINDS * slot;
+        let b = self.cell(i + 1);
+        let c = self.cell(i + 2);
+        let d = self.cell(i + 3);
+        let e = self.cell(i + 4);
+        let a = match kinds {
+            Kinds::From2To5 => 0,
+            Kinds::All => self.cell(i),
+        };
+        [a, b, c, d, e]
+    }
+
+    // A user's weight.
+    fn user_weight(&self, kinds: Kinds, slot: usize) -> u64
+        requires { slot < USERS }
+        ensures { result ≡ weight_at (are_all kinds) self.now.consumption.now self.now.losses.now slot }
+    {
+        let ws = self.kind_weights(kinds, slot);
+        proration::weight_total(&ws)
+    }
+
+    // The weights of as many users as there is room for.
+    fn weights(&self, kinds: Kinds, ws: &mut [u64])
+        requires { length ws.old ≤ USERS }
+        ensures { ws.new ≡ weights (are_all kinds) self.now.consumption.now self.now.losses.now (length ws.old) }
+    {
+        for (s, w) in ws.iter_mut().enumerate() {
+            *w = self.user_weight(kinds, s);
+        }
+    }
+
+    // The users' weights, of kinds 2 to 5 or, if these are zero for all users, of all kinds.
+    pub fn weigh(&self, ws: &mut [u64]) -> Basis
+        requires { length ws.old ≤ USERS }
+        ensures kinds { are_all result.kinds ≡ by_all_kinds self.now.consumption.now self.now.losses.now (length ws.old) }
+        ensures total { result.total ≡ total (basis_weights self.now.consumption.now self.now.losses.now (length ws.old)) }
+        ensures ws_after { ws.new ≡ basis_weights self.now.consumption.now self.now.losses.now (length ws.old) }
+    {
+        self.weights(Kinds::From2To5, ws);
+        let total = proration::weight_total(ws);
+        if total != 0 {
+            return Basis {
+                kinds: Kinds::From2To5,
+                total: total,
+            };
+        }
+        self.weights(Kinds::All, ws);
+        Basis {
+            kinds: Kinds::All,
+            total: proration::weight_total(ws),
+        }
     }
 }

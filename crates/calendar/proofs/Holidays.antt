@@ -3,18 +3,21 @@ use mathlib.Core.Path.{◌≡◌, refl, sym, ap}
 use mathlib.Core.Bool.{true, false}
 use mathlib.Core.List.{List, [], ◌∷◌}
 use mathlib.Core.Logic.{⊎_elim}
-use Prim.Native.Nat.{ℕ, zero, suc, ◌+◌, ◌≤◌, ◌<◌}
+use Prim.Native.Nat.{ℕ, zero, suc, ◌+◌, ◌-◌, ◌≤◌, ◌<◌}
 use native.Mathlib.Omega.{arith}
-use native.Mathlib.Numerals.{add-one}
 use native.Mathlib.Nat.{le_of_eq}
 use lib.Dec.{leb, ltb}
 use lib.ListN.{length, drop}
 use lib.Seq.{drop-cons}
 use borrow.Author.Tests.{le-leb, lt-leb, leb-true, ltb-true, ne_eqb}
+use Rattle.std.specs.Prelude.{Result, Ok, Err, is_ok}
+use Rattle.std.specs.Ordering.{nat_cmp}
+use Rattle.std.specs.List.Sorted.{IsBinarySearchResult}
+use Rattle.std.proofs.lemmas.List.Sorted.{searched}
 use Rattle.numbers.specs.Sums.{at}
 use Rattle.numbers.specs.Lists.{both, every, has, rising}
 use Rattle.numbers.proofs.Sums.{lt_or_ge}
-use Rattle.numbers.proofs.Lists.{both_fst, both_snd, both_end, both_none}
+use Rattle.numbers.proofs.Lists.{has_at, both_fst, both_snd, both_end, both_none}
 use Rattle.calendar.specs.Days.{LAST_DAY, MOST_HOLIDAYS, is_gas_day, holidays_right, calendar_right}
 
 -- ---- a day among the holidays
@@ -40,11 +43,24 @@ rising_lt (x ∷ (y ∷ ys)) r (suc i) (suc j) l m = rising_lt (y ∷ ys) (both_
 pub rising_le : (hs : List ℕ) → rising hs ≡ true → (i j : ℕ) → i ≤ j → j < length hs → at hs i ≤ at hs j
 rising_le hs r i j l m = ⊎_elim (λ h. omega (arith, rising_lt hs r i j h m)) (λ h. let e : i ≡ j = omega arith in le_of_eq (ap (at hs) e)) (lt_or_ge i j)
 
+-- what a search by halving finds in numbers that rise
+pub searched_has : (d : ℕ) (hs : List ℕ) (r : Result ℕ ℕ) → IsBinarySearchResult (λ y. nat_cmp y d) hs r → rising hs ≡ true → is_ok r ≡ has d hs
+searched_has d hs (Ok i) s e =
+    let v = searched hs d (Ok i) s (rising_le hs e) in
+    sym (has_at d hs i v.0 v.1)
+searched_has d hs (Err i) s e =
+    let v = searched hs d (Err i) s (rising_le hs e) in
+    sym (has_none d hs (λ k l q. ⊎_elim (λ h. omega (arith, v.1 k h)) (λ h. omega (arith, v.2 k h l)) (lt_or_ge k i)))
+
 -- ---- numbers that rise, place by place
 
-pub rises_step : (xs : List ℕ) (i : ℕ) → i + 1 < length xs → rising (drop i xs) ≡ both (ltb (at xs i) (at xs (i + 1))) (rising (drop (i + 1) xs))
+pub rises_step : (xs : List ℕ) (i : ℕ) → 0 < i → i < length xs → rising (drop (i - 1) xs) ≡ both (ltb (at xs (i - 1)) (at xs i)) (rising (drop (i + 1 - 1) xs))
 unfolding rising
-rises_step xs i l = rw (drop-cons xs i 0 (omega arith), ← add-one i, drop-cons xs (i + 1) 0 l)
+rises_step xs zero p l = absurd (omega arith)
+rises_step xs (suc i) p l =
+    let before : suc i - 1 ≡ i = omega arith in
+    let here : suc i + 1 - 1 ≡ suc i = omega arith in
+    rw (before, here, drop-cons xs i 0 (omega arith), drop-cons xs (suc i) 0 l)
 
 pub rises_end : (xs : List ℕ) (i : ℕ) → length xs ≤ i + 1 → rising (drop i xs) ≡ true
 unfolding rising
@@ -73,14 +89,6 @@ every_last m (x ∷ (y ∷ ys)) (suc k) e r =
     rw (every_last m (y ∷ ys) k (omega arith) (both_snd (ltb x y) _ r)) (lower x (at (y ∷ ys) k) m (omega arith))
 
 module _ (hs : List ℕ) where
-  pub too_many : MOST_HOLIDAYS < length hs → holidays_right hs ≡ false
-  unfolding holidays_right
-  too_many h = rw (lt-leb (length hs) MOST_HOLIDAYS h)
-
-  pub not_rising : length hs ≤ MOST_HOLIDAYS → rising hs ≡ false → holidays_right hs ≡ false
-  unfolding holidays_right
-  not_rising h r = rw (le-leb (length hs) MOST_HOLIDAYS h, r)
-
   pub no_holiday : length hs ≡ 0 → rising hs ≡ true → holidays_right hs ≡ true
   unfolding holidays_right every
   no_holiday e r = rw (le-leb (length hs) MOST_HOLIDAYS (omega arith), r) (none hs e)
@@ -89,9 +97,9 @@ module _ (hs : List ℕ) where
       none [] f = refl
       none (x ∷ xs) f = absurd (omega arith)
 
-  pub by_last : length hs ≤ MOST_HOLIDAYS → rising hs ≡ true → (k : ℕ) → suc k ≡ length hs → holidays_right hs ≡ is_gas_day (at hs k)
+  pub by_last : length hs ≤ MOST_HOLIDAYS → rising hs ≡ true → 0 < length hs → holidays_right hs ≡ is_gas_day (at hs (length hs - 1))
   unfolding holidays_right
-  by_last h r k e = rw (le-leb (length hs) MOST_HOLIDAYS h, r) (every_last LAST_DAY hs k e r)
+  by_last h r l = rw (le-leb (length hs) MOST_HOLIDAYS h, r) (every_last LAST_DAY hs (length hs - 1) (omega arith) r)
 
 -- a list as stated rises
 pub right_rising : (hs : List ℕ) → holidays_right hs ≡ true → rising hs ≡ true

@@ -20,7 +20,7 @@ const SATURDAY: u32 = 1;
 
 const SUNDAY: u32 = 2;
 
-#[derive(Clone, Copy)]
+#[derive(Clone, Copy, Debug, PartialEq, Eq)]
 pub enum DayType {
     Working,
     Saturday,
@@ -52,112 +52,74 @@ fn are_rising(numbers: &[u32]) -> bool
     ensures { result ≡ rising numbers.now }
 {
     let mut rises = true;
-    let mut i = 0;
-    while i + 1 < numbers.len() {
-        rises = rises & (numbers[i] < numbers[i + 1]);
-        i += 1;
+    for i in 1..numbers.len() {
+        rises &= numbers[i - 1] < numbers[i];
     }
     rises
 }
 
 // Whether the holidays are as stated: not too many, rising, each a gas day. Rising numbers are gas days if the last one is.
+#[tactic(auto, unfolding(crate::specs::Days::holidays_right))]
 fn are_holidays(holidays: &[u32]) -> bool
     ensures { result ≡ holidays_right holidays.now }
 {
-    let count = holidays.len();
-    if MOST_HOLIDAYS < count {
+    if MOST_HOLIDAYS < holidays.len() || !are_rising(holidays) {
         return false;
     }
-    if !are_rising(holidays) {
-        return false;
+    match holidays.last() {
+        Some(&last) => is_gas_day(last),
+        None => true,
     }
-    if count == 0 {
-        return true;
-    }
-    is_gas_day(holidays[count - 1])
 }
 
 // Whether a gas day and holidays are as stated.
+#[tactic(auto, unfolding(crate::specs::Days::calendar_right))]
 pub fn is_calendar(day: u32, holidays: &[u32]) -> bool
     ensures { result ≡ calendar_right day holidays.now }
 {
-    if !is_gas_day(day) {
-        return false;
-    }
-    are_holidays(holidays)
+    is_gas_day(day) && are_holidays(holidays)
 }
 
-// Whether the day is a holiday, by halving.
+// Whether the day is a holiday.
 fn is_holiday(day: u32, holidays: &[u32]) -> bool
     requires { rising holidays.now ≡ true }
     ensures { result ≡ has day holidays.now }
 {
-    let mut low = 0;
-    let mut high = holidays.len();
-    while low < high {
-        let middle = low + (high - low) / 2;
-        let holiday = holidays[middle];
-        if holiday == day {
-            return true;
-        }
-        if holiday < day {
-            low = middle + 1;
-        } else {
-            high = middle;
-        }
-    }
-    false
+    holidays.binary_search(&day).is_ok()
 }
 
 // The type of a day.
+#[tactic(auto, unfolding(crate::specs::DayTypes::day_type))]
 pub fn type_of_day(day: u32, holidays: &[u32]) -> DayType
     requires { rising holidays.now ≡ true }
     ensures { result ≡ day_type holidays.now day }
 {
     let weekday = day % WEEK;
-    if weekday == SUNDAY {
-        return DayType::SundayOrHoliday;
+    if weekday == SUNDAY || is_holiday(day, holidays) {
+        DayType::SundayOrHoliday
+    } else if weekday == SATURDAY {
+        DayType::Saturday
+    } else {
+        DayType::Working
     }
-    if is_holiday(day, holidays) {
-        return DayType::SundayOrHoliday;
-    }
-    if weekday == SATURDAY {
-        return DayType::Saturday;
-    }
-    DayType::Working
 }
 
 // Whether a type is that of a working day.
 pub fn is_working(day_type: DayType) -> bool
     ensures { result ≡ is_working_type day_type }
 {
-    match day_type {
-        DayType::Working => true,
-        DayType::Saturday => false,
-        DayType::SundayOrHoliday => false,
-    }
+    day_type == DayType::Working
 }
 
 // Whether two types are the same.
 pub fn are_same(one: DayType, other: DayType) -> bool
     ensures { result ≡ same_type one other }
 {
-    match one {
-        DayType::Working => is_working(other),
-        DayType::Saturday => match other {
-            DayType::Working => false,
-            DayType::Saturday => true,
-            DayType::SundayOrHoliday => false,
-        },
-        DayType::SundayOrHoliday => match other {
-            DayType::Working => false,
-            DayType::Saturday => false,
-            DayType::SundayOrHoliday => true,
-        },
-    }
+    one == other
 }
 
 // The type of a gas day.
+#[tactic(auto, using(crate::proofs::Holidays::calendar_rising), unfolding(crate::specs::DayTypes::type_call, crate::specs::Answers::tested))]
 pub fn day_type(day: u32, holidays: &[u32]) -> DayTypeAnswer
     ensures { answer_of result ≡ type_call day holidays.now }
 {

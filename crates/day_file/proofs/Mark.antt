@@ -1,45 +1,24 @@
--- A mark compared byte by byte. Assumes nothing.
-use mathlib.Core.Path.{◌≡◌, ◌∙◌}
-use mathlib.Core.Bool.{Bool, true, false}
-use mathlib.Core.List.{List, [], ◌∷◌}
-use Prim.Native.Nat.{ℕ, suc, ◌+◌, ◌<◌}
-use native.Mathlib.Numerals.{add-one}
-use lib.Dec.{eqb}
-use lib.ListN.{length, drop}
-use lib.Seq.{drop-cons}
-use borrow.Author.Tests.{eq-eqb, ne_eqb}
-use Rattle.numbers.specs.Sums.{at}
+-- The mark of a day file is its first four bytes. Assumes nothing.
+use Rattle.std.proofs.Common.{◌≡◌, refl, ◌∙◌, List, [], ◌∷◌, ℕ, ◌≤◌, Bool, true, false, ◌&&◌, length, take, nat_eq, eqb, arith}
+use Rattle.std.proofs.lemmas.Cmp.{nat_list_eq_equiv}
+use lib.Pointwise.{pointwise}
 use Rattle.numbers.specs.Lists.{both}
-use Rattle.numbers.proofs.Lists.{both_end}
-use Rattle.day_file.specs.Form.{has_mark}
-
--- the bytes ms stand in f from place i on
-unfoldable pub stands : List ℕ → ℕ → List ℕ → Bool
-stands f i [] = true
-stands f i (m ∷ ms) = both (eqb (at f i) m) (stands f (suc i) ms)
+use Rattle.day_file.specs.Form.{HEADER, has_mark}
 
 -- `REP1`
 abbrev pub mark : List ℕ
 mark = 82 ∷ 69 ∷ 80 ∷ 49 ∷ []
 
-pub mark_stands : (f : List ℕ) → has_mark f ≡ stands f 0 mark
-unfolding stands
-mark_stands f = rw (both_end (eqb (at f 3) 49))
+tests : (p q r s : Bool) → p && (q && (r && (s && true))) ≡ both p (both q (both r s))
+tests true true true true = refl
+tests true true true false = refl
+tests true true false s = refl
+tests true false r s = refl
+tests false q r s = refl
 
-next_byte : (f ms : List ℕ) (i : ℕ) → i < length ms → stands f i (drop i ms) ≡ both (eqb (at f i) (at ms i)) (stands f (i + 1) (drop (i + 1) ms))
-unfolding stands
-next_byte f ms i l = rw (add-one i, drop-cons ms i 0 l)
-
--- what is left at byte i
-abbrev pub Left : List ℕ → ℕ → Bool
-Left f i = stands f i (drop i mark)
-
-pub differs : (f : List ℕ) (i : ℕ) → i < 4 → (at f i ≡ at mark i → ⊥) → Left f i ≡ false
-differs f i l h = next_byte f mark i l ∙ rw (ne_eqb (at f i) (at mark i) h)
-
-pub agrees : (f : List ℕ) (i : ℕ) → i < 4 → at f i ≡ at mark i → Left f i ≡ Left f (i + 1)
-agrees f i l h = next_byte f mark i l ∙ rw (eq-eqb (at f i) (at mark i) h)
-
-pub none_left : (f : List ℕ) (i : ℕ) → i ≡ 4 → Left f i ≡ true
-unfolding stands
-none_left f i e = rw e
+pub marked : (f : List ℕ) → HEADER ≤ length f → pointwise nat_eq mark (take 4 f) ≡ has_mark f
+marked (a ∷ (b ∷ (c ∷ (d ∷ f)))) l = nat_list_eq_equiv.symm mark (a ∷ b ∷ c ∷ d ∷ []) ∙ tests (eqb a 82) (eqb b 69) (eqb c 80) (eqb d 49)
+marked [] l = absurd (omega arith)
+marked (a ∷ []) l = absurd (omega arith)
+marked (a ∷ (b ∷ [])) l = absurd (omega arith)
+marked (a ∷ (b ∷ (c ∷ []))) l = absurd (omega arith)

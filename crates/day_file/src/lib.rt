@@ -63,29 +63,11 @@ pub enum Decoded {
     Malformed,
 }
 
-// Whether the file starts with the mark.
-fn has_mark(file: &[u8]) -> bool
-    requires { HEADER ≤ length file.now }
-    ensures { result ≡ has_mark file.now }
-{
-    let mut i = 0;
-    while i < 4 {
-        if file[i] != MARK[i] {
-            return false;
-        }
-        i += 1;
-    }
-    true
-}
-
 // Whether a section of this size is whole: a user, then lines.
 fn is_whole(size: usize) -> bool
     ensures { result ≡ both (leb USER size) (eqb ((size - USER) % LINE) 0) }
 {
-    if size < USER {
-        return false;
-    }
-    (size - USER) % LINE == 0
+    USER <= size && (size - USER) % LINE == 0
 }
 
 // The header of a file that is long enough for one.
@@ -98,7 +80,7 @@ fn read_header(file: &[u8]) -> Header
         day: wire::read_u32(file, GAS_DAY),
         emission: wire::read_u32(file, EMISSION),
         downstream: wire::read_u32(file, DOWNSTREAM),
-        sections: sections,
+        sections,
         pairs: HEADER,
     }
 }
@@ -111,10 +93,7 @@ pub fn section_at(file: &[u8], pairs: usize, i: usize) -> Section
     let at = pairs + PAIR * i;
     let offset = wire::read_u32(file, at) as usize;
     let size = wire::read_u32(file, at + SIZE) as usize;
-    Section {
-        offset: offset,
-        size: size,
-    }
+    Section { offset, size }
 }
 
 // Whether the pairs give whole sections inside the file, each from the end of the one before on, the first from the end of the pairs on.
@@ -123,22 +102,15 @@ fn are_sections(file: &[u8], pairs: usize, count: usize) -> bool
     ensures { result ≡ sections_right file.now (sections file.now) }
 {
     let mut end = pairs + PAIR * count;
-    let mut i = 0;
-    while i < count {
+    for i in 0..count {
         let section = section_at(file, pairs, i);
-        let offset = section.offset;
-        let size = section.size;
-        if offset < end {
+        if section.offset < end || !is_whole(section.size) {
             return false;
         }
-        if !is_whole(size) {
-            return false;
-        }
-        end = offset + size;
+        end = section.offset + section.size;
         if file.len() < end {
             return false;
         }
-        i += 1;
     }
     true
 }
@@ -147,20 +119,13 @@ fn are_sections(file: &[u8], pairs: usize, count: usize) -> bool
 pub fn decode(file: &[u8]) -> Decoded
     ensures { result ≡ decoded file.now }
 {
-    if MOST_BYTES < file.len() {
-        return Decoded::Malformed;
-    }
-    if file.len() < HEADER {
-        return Decoded::Malformed;
-    }
-    if !has_mark(file) {
+    if MOST_BYTES < file.len() || file.len() < HEADER || !file.starts_with(&MARK) {
         return Decoded::Malformed;
     }
     let header = read_header(file);
-    if file.len() < header.pairs + PAIR * header.sections {
-        return Decoded::Malformed;
-    }
-    if !are_sections(file, header.pairs, header.sections) {
+    if file.len() < header.pairs + PAIR * header.sections
+        || !are_sections(file, header.pairs, header.sections)
+    {
         return Decoded::Malformed;
     }
     Decoded::DayFile(header)

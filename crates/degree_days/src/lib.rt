@@ -22,46 +22,27 @@ pub enum DegreeDaysAnswer {
 }
 
 // Whether a day's temperatures are in their range and in order.
+#[tactic(auto, using(std::proofs::lemmas::Int::ints), unfolding(crate::specs::Degrees::temperatures_right))]
 fn are_temperatures(tmin: i32, tmax: i32) -> bool
     ensures { result ≡ temperatures_right tmin tmax }
 {
-    if LOWEST <= tmin {
-        if tmin <= tmax {
-            return tmax <= HIGHEST;
-        }
-    }
-    false
-}
-
-// How far a temperature lies below 15 degrees.
-fn below_base(t: i32) -> u64
-    requires { (le_z LOWEST t ≡ true) × (lt_z t BASE ≡ true) }
-    ensures { pos result ≡ BASE -ℤ t }
-{
-    (BASE - t) as u64
-}
-
-// How far a temperature lies above 15 degrees.
-fn above_base(t: i32) -> u64
-    requires { (lt_z t BASE ≡ false) × (le_z t HIGHEST ≡ true) }
-    ensures { pos result ≡ t -ℤ BASE }
-{
-    (t - BASE) as u64
+    LOWEST <= tmin && tmin <= tmax && tmax <= HIGHEST
 }
 
 // The degree days of a day, in fortieths of a degree.
-fn fortieths(tmin: i32, tmax: i32) -> u64
+#[tactic(auto, using(std::proofs::lemmas::Int::ints), unfolding(crate::specs::Degrees::temperatures_right, crate::specs::Degrees::degree_days))]
+fn fortieths(tmin: i32, tmax: i32) -> u32
     requires { temperatures_right tmin tmax ≡ true }
     ensures { pos result ≡ degree_days tmin tmax }
 {
     if BASE <= tmin {
         return 0;
     }
-    let cold = below_base(tmin);
+    let cold = BASE.abs_diff(tmin);
     if tmax < BASE {
-        return 2 * (cold + below_base(tmax));
+        return 2 * (cold + BASE.abs_diff(tmax));
     }
-    let warm = above_base(tmax);
+    let warm = tmax.abs_diff(BASE);
     if cold < warm {
         return cold;
     }
@@ -69,11 +50,12 @@ fn fortieths(tmin: i32, tmax: i32) -> u64
 }
 
 // The degree days of a day with these lowest and highest temperatures.
+#[tactic(auto, using(std::proofs::lemmas::Int::ints), unfolding(crate::specs::Degrees::degree_days_call, calendar::specs::Answers::tested))]
 pub fn degree_days(tmin: i32, tmax: i32) -> DegreeDaysAnswer
     ensures { answer_of result ≡ degree_days_call tmin tmax }
 {
     if !are_temperatures(tmin, tmax) {
         return DegreeDaysAnswer::Refused(OUT_OF_RANGE);
     }
-    DegreeDaysAnswer::Fortieths(fortieths(tmin, tmax))
+    DegreeDaysAnswer::Fortieths(fortieths(tmin, tmax) as u64)
 }

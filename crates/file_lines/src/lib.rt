@@ -42,15 +42,13 @@ fn enter_section(
     let start = offset + USER;
     let lines = (size - USER) / LINE;
     let mut sum = offtake;
-    let mut j = 0;
-    while j < lines {
+    for j in 0..lines {
         let at = start + LINE * j;
         let so_far = lines::enter_line(file, at, user, i, sum, consumption, losses);
         let SoFar::Offtake(more) = so_far else {
             return so_far;
         };
         sum = more;
-        j += 1;
     }
     SoFar::Offtake(sum)
 }
@@ -72,14 +70,12 @@ pub fn enter_sections(
         (entering count users.new consumption.new losses.new) }
 {
     let mut sum: u64 = 0;
-    let mut i = 0;
-    while i < count {
+    for i in 0..count {
         let so_far = enter_section(file, pairs, i, limit, sum, users, consumption, losses);
         let SoFar::Offtake(more) = so_far else {
             return so_far;
         };
         sum = more;
-        i += 1;
     }
     SoFar::Offtake(sum)
 }

@@ -124,7 +124,7 @@ fn revise_tests(day: &[i64], column: &mut [i64]) -> ReviseTest
     if !state.taken {
         return ReviseTest::Refused(OUT_OF_RANGE);
     }
-    writes::put(column, 0, &state.wholes);
+    column.copy_from_slice(&state.wholes);
     revise::revise_test(state, &day[REVISION_AT..LENGTH], TOLERANCE, column)
 }
 

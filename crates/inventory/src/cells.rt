@@ -4,7 +4,7 @@ ghost use Rattle.point_day.specs.Limits.{USERS, CELLS};
 ghost use Rattle.inventory.specs.Row.{ROW};
 ghost use Rattle.inventory.specs.Cells.{cells, row_count};
 
-use super::row;
+use super::row::{self, UserKind};
 use point_day::KINDS;
 
 // How many of the first n cells are rows.
@@ -18,10 +18,8 @@ pub fn count_rows<'a>(
     ensures { result ≡ row_count consumption.now losses.now balance.now n }
 {
     let mut count: usize = 0;
-    let mut i = 0;
-    while i < n {
-        count += row::one_if_row(consumption[i], losses[i], balance[i]);
-        i += 1;
+    for i in 0..n {
+        count += usize::from(row::is_row(consumption[i], losses[i], balance[i]));
     }
     count
 }
@@ -39,17 +37,14 @@ pub fn write_rows<'a>(
     ensures { out.new ≡ cells users.now consumption.now losses.now balance.now n ++ drop (ROW * row_count consumption.now losses.now balance.now n) out.old }
 {
     let mut place: usize = 0;
-    let mut i = 0;
-    while i < n {
-        place = row::write_row(
-            users[i / KINDS],
-            i % KINDS + 1,
-            consumption[i],
-            losses[i],
-            balance[i],
-            place,
-            out,
-        );
-        i += 1;
+    for i in 0..n {
+        let cell = UserKind {
+            user: users[i / KINDS],
+            kind: i % KINDS + 1,
+            consumption: consumption[i],
+            losses: losses[i],
+            balance: balance[i],
+        };
+        place = cell.write(place, out);
     }
 }

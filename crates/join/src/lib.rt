@@ -23,7 +23,7 @@ fn append(day: PointDay, user: u16) -> PointDay
     users[n] = user;
     PointDay {
         count: n + 1,
-        users: users,
+        users,
         ..day
     }
 }
@@ -61,9 +61,8 @@ pub fn join(day: PointDay, user: u16) -> Outcome
     if number != 0 {
         return point_day::refuse(number, day);
     }
-    let next = append(day, user);
     Outcome {
         answer: Answer::Done,
-        day: next,
+        day: append(day, user),
     }
 }

@@ -16,22 +16,15 @@ pub enum CellLine {
 }
 
 // Whether a line's arguments are in their ranges.
+#[tactic(auto, unfolding(point_day::specs::Calls::line_right))]
 pub fn line_right(user: u16, kind: u8, consumption: u64, coefficient: u64) -> bool
     ensures { result ≡ line_right user kind consumption coefficient }
 {
-    if user == 0 {
-        return false;
-    }
-    if kind < 1 {
-        return false;
-    }
-    if KINDS < kind as usize {
-        return false;
-    }
-    if LIMIT < consumption {
-        return false;
-    }
-    coefficient <= COEFFICIENT
+    user != 0
+        && 1 <= kind
+        && kind as usize <= KINDS
+        && consumption <= LIMIT
+        && coefficient <= COEFFICIENT
 }
 
 // The losses that a line adds.

@@ -86,14 +86,13 @@ fn line_at(day: PointDay, place: usize, amount: u64, added: u64) -> Outcome
     let mut losses = day.losses;
     state::add_at(&mut consumption, place, amount);
     state::add_at(&mut losses, place, added);
-    let next = PointDay {
-        consumption: consumption,
-        losses: losses,
-        ..day
-    };
     Outcome {
         answer: Answer::LossesAdded(added),
-        day: next,
+        day: PointDay {
+            consumption,
+            losses,
+            ..day
+        },
     }
 }
 
@@ -102,8 +101,7 @@ pub fn line(day: PointDay, user: u16, kind: u8, consumption: u64, coefficient: u
     ensures { outcome (answer_of result.answer) result.day ≡ called (line user kind consumption coefficient) day }
 {
     let state = taken::test_day(day);
-    let test = line_test(state, user, kind, consumption, coefficient);
-    match test {
+    match line_test(state, user, kind, consumption, coefficient) {
         LineTest::Refused(number) => point_day::refuse(number, day),
         LineTest::Passed(place, added) => line_at(day, place, consumption, added),
     }
@@ -137,7 +135,7 @@ pub fn line_by_edit(
     let mut edited = day;
     let answer = line_lent(&mut edited, user, kind, consumption, coefficient);
     Outcome {
-        answer: answer,
+        answer,
         day: edited,
     }
 }

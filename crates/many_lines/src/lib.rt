@@ -21,23 +21,14 @@ use plain_day::writes;
 // Hints where a user may stand, by the remainder of its number.
 const HINTS: usize = 1024;
 
-fn hint(slot: usize) -> u8
-    requires { slot ≤ USERS }
-    ensures { result ≡ slot }
-{
-    slot as u8
-}
-
 // Slots by the remainder of the user number; of two users with the same remainder the later one is hinted at.
 fn hints_of(slots: &[u16], count: usize) -> [u8; HINTS]
     requires { (count ≤ length slots.now) × (count ≤ USERS) }
     ensures { length result ≡ HINTS }
 {
     let mut hints = [0; HINTS];
-    let mut i = 0;
-    while i < count {
-        hints[slots[i] as usize % HINTS] = hint(i);
-        i += 1;
+    for i in 0..count {
+        hints[usize::from(slots[i]) % HINTS] = i as u8;
     }
     hints
 }
@@ -47,11 +38,9 @@ fn slot_near<'a>(hints: &'a [u8], slots: &'a [u16], count: usize, user: u16) -> 
     requires { (length hints.now ≡ HINTS) × (count ≤ length slots.now) }
     ensures { Placed user count slots.now result }
 {
-    let near = hints[user as usize % HINTS] as usize;
-    if near < count {
-        if slots[near] == user {
-            return near;
-        }
+    let near = usize::from(hints[usize::from(user) % HINTS]);
+    if near < count && slots[near] == user {
+        return near;
     }
     state::slot_of(slots, count, user)
 }
@@ -94,8 +83,7 @@ fn enter_lines<'a>(
     let hints = hints_of(slots, count);
     let mut sum = offtake;
     let mut losses: u64 = 0;
-    let mut i = 0;
-    while i < users.len() {
+    for i in 0..users.len() {
         let amount = consumptions[i];
         let slot = slot_near(&hints, slots, count, users[i]);
         let test = line::slot_test(
@@ -113,13 +101,12 @@ fn enter_lines<'a>(
             }
             LineTest::Passed(place, added) => {
                 writes::add(day, place, amount, added);
-                sum = sum + (amount + added);
-                losses = losses + added;
+                sum += amount + added;
+                losses += added;
             }
         }
-        i += 1;
     }
-    entered(0, i, losses)
+    entered(0, users.len(), losses)
 }
 
 // ---- Many lines
@@ -132,23 +119,16 @@ fn same_lengths<'a>(
 ) -> bool
     ensures { result ≡ same_lengths users.now kinds.now consumptions.now coefficients.now }
 {
-    if users.len() != kinds.len() {
-        return false;
-    }
-    if users.len() != consumptions.len() {
-        return false;
-    }
-    users.len() == coefficients.len()
+    users.len() == kinds.len()
+        && users.len() == consumptions.len()
+        && users.len() == coefficients.len()
 }
 
 // The lines on a point-day that is not entering: the first is refused.
 fn refuse_first(n: usize) -> u8
     ensures { result ≡ pick (eqb n 0) 0 1 }
 {
-    if n == 0 {
-        return 0;
-    }
-    numbers::WRONG_STAGE
+    if n == 0 { 0 } else { numbers::WRONG_STAGE }
 }
 
 // Many lines: line after line until one is refused; how many were accepted, and the losses that they added, are given in every case.

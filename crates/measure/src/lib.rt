@@ -20,10 +20,7 @@ use taken::StateTest;
 fn measured_for_good(allotted: bool, stage: Stage) -> bool
     ensures { result ≡ both allotted (not (provisional stage)) }
 {
-    if allotted {
-        return !state::is_provisional(stage);
-    }
-    false
+    allotted && stage != Stage::Provisional
 }
 
 // The tests of a measure on a point-day, of which `state` is the test: 0, or the number of the refusal.
@@ -61,9 +58,8 @@ pub fn measure(day: PointDay, emission: u64, downstream: u64) -> Outcome
     if number != 0 {
         return point_day::refuse(number, day);
     }
-    let next = remeasure(day, emission, downstream);
     Outcome {
         answer: Answer::Done,
-        day: next,
+        day: remeasure(day, emission, downstream),
     }
 }

@@ -41,6 +41,7 @@ pub enum MonthAnswer {
 }
 
 // The days of a month of a year, January being month 1.
+#[tactic(auto, unfolding(crate::specs::Months::month_days, numbers::specs::Lists::has))]
 fn days_of_month(year: u32, month: u32) -> u32
     ensures { result ≡ month_days year month }
 {
@@ -52,6 +53,7 @@ fn days_of_month(year: u32, month: u32) -> u32
 }
 
 // The days of a month counted from January 2016.
+#[tactic(auto, unfolding(crate::specs::Months::length_of))]
 fn length_of(n: u32) -> u32
     requires { n < MONTHS }
     ensures { result ≡ length_of n }
@@ -69,7 +71,7 @@ pub fn month_of_day(day: u32) -> Month
     let mut n = cycles * CYCLE_MONTHS;
     let mut days = length_of(n);
     while first + days <= day {
-        first = first + days;
+        first += days;
         n += 1;
         days = length_of(n);
     }
@@ -90,15 +92,12 @@ pub fn days_last_year(month: Month) -> u32
 }
 
 // 1 if the day is a working day, else 0.
+#[tactic(auto, unfolding(calendar::specs::DayTypes::is_working))]
 fn working_bit(day: u32, holidays: &[u32]) -> u32
     requires { rising holidays.now ≡ true }
     ensures { result ≡ bit (is_working holidays.now day) }
 {
-    if calendar::is_working(calendar::type_of_day(day, holidays)) {
-        1
-    } else {
-        0
-    }
+    u32::from(calendar::is_working(calendar::type_of_day(day, holidays)))
 }
 
 // The mask of the working days of a month, bit 0 for its first day.
@@ -106,13 +105,9 @@ fn mask_of_month(month: Month, holidays: &[u32]) -> u32
     requires { (rising holidays.now ≡ true) × (month.first ≤ LAST_DAY) × (month.days < MASK_BITS) }
     ensures { result ≡ working_mask holidays.now month }
 {
-    let first = month.first;
-    let days = month.days;
-    let mut mask: u32 = 0;
-    let mut i: u32 = 0;
-    while i < days {
-        mask = mask + (working_bit(first + i, holidays) << i);
-        i += 1;
+    let mut mask = 0;
+    for i in 0..month.days {
+        mask += working_bit(month.first + i, holidays) << i;
     }
     mask
 }
@@ -122,10 +117,11 @@ pub fn working_days(month: Month, holidays: &[u32]) -> u32
     requires { (rising holidays.now ≡ true) × (month.first ≤ LAST_DAY) × (month.days < MASK_BITS) }
     ensures { result ≡ N_lab holidays.now month }
 {
-    u32::count_ones(mask_of_month(month, holidays))
+    mask_of_month(month, holidays).count_ones()
 }
 
 // The month of a gas day: its first day, its days, its working days as a mask, and how many they are.
+#[tactic(auto, unfolding(crate::specs::WorkingDays::month_call, calendar::specs::Answers::tested))]
 pub fn month_figures(day: u32, holidays: &[u32]) -> MonthAnswer
     ensures { answer_of result ≡ month_call day holidays.now }
 {
@@ -138,6 +134,6 @@ pub fn month_figures(day: u32, holidays: &[u32]) -> MonthAnswer
         first: m.first,
         days: m.days,
         mask,
-        working: u32::count_ones(mask),
+        working: mask.count_ones(),
     }
 }

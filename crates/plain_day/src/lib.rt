@@ -5,8 +5,9 @@ pub mod from_numbers;
 pub mod writes;
 
 ghost use Rattle.std.specs.Prelude.{◌≡◌, length};
+ghost use Rattle.numbers.specs.Sums.{atZ};
 ghost use Rattle.numbers.specs.Lists.{every};
-ghost use Rattle.plain_day.specs.Layout.{LENGTH, up_to, emissions_readable, head_readable, is_readable, users_in, day_in};
+ghost use Rattle.plain_day.specs.Layout.{LENGTH, STAGE_AT, ALLOTTED_AT, MEASURED_AT, EMISSION_AT, DOWNSTREAM_AT, COUNT_AT, up_to, emissions_readable, head_readable, is_readable, users_in, day_in};
 ghost use Rattle.taken.specs.Tested.{StateOf};
 ghost use Rattle.plain_day.specs.Tested.{TestedNumbers};
 
@@ -46,58 +47,32 @@ const LAST_NUMBER: u64 = 65535;
 fn up_to(x: i64, most: u64) -> bool
     ensures { result ≡ up_to most x }
 {
-    if numbers::is_negative(x) {
-        return false;
-    }
-    wire::magnitude(x) <= most
+    x >= 0 && x.unsigned_abs() <= most
 }
 
 // Whether each does.
 fn all_up_to(xs: &[i64], most: u64) -> bool
     ensures { result ≡ every (up_to most) xs.now }
 {
-    let mut i = 0;
-    while i < xs.len() {
-        if !up_to(xs[i], most) {
-            return false;
-        }
-        i += 1;
-    }
-    true
+    xs.iter().all(|&x| up_to(x, most))
 }
 
 fn emissions_readable(emission: i64, downstream: i64) -> bool
     ensures { result ≡ emissions_readable emission downstream }
 {
-    if !up_to(emission, LIMIT) {
-        return false;
-    }
-    up_to(downstream, wire::magnitude(emission))
+    up_to(emission, LIMIT) && up_to(downstream, emission.unsigned_abs())
 }
 
-fn head_readable(
-    stage: i64,
-    allotted: i64,
-    measured: i64,
-    emission: i64,
-    downstream: i64,
-    count: i64,
-) -> bool
-    ensures { result ≡ head_readable stage allotted measured emission downstream count }
+// Whether the six numbers before the users are in range.
+fn head_readable(xs: &[i64]) -> bool
+    requires { length xs.now ≡ LENGTH }
+    ensures { result ≡ head_readable (atZ xs.now STAGE_AT) (atZ xs.now ALLOTTED_AT) (atZ xs.now MEASURED_AT) (atZ xs.now EMISSION_AT) (atZ xs.now DOWNSTREAM_AT) (atZ xs.now COUNT_AT) }
 {
-    if !up_to(stage, 2) {
-        return false;
-    }
-    if !up_to(allotted, 1) {
-        return false;
-    }
-    if !up_to(measured, 1) {
-        return false;
-    }
-    if !emissions_readable(emission, downstream) {
-        return false;
-    }
-    up_to(count, USERS as u64)
+    up_to(xs[STAGE_AT], 2)
+        && up_to(xs[ALLOTTED_AT], 1)
+        && up_to(xs[MEASURED_AT], 1)
+        && emissions_readable(xs[EMISSION_AT], xs[DOWNSTREAM_AT])
+        && up_to(xs[COUNT_AT], USERS as u64)
 }
 
 pub fn is_readable(xs: &[i64]) -> bool
@@ -106,17 +81,7 @@ pub fn is_readable(xs: &[i64]) -> bool
     if xs.len() != LENGTH {
         return false;
     }
-    if !head_readable(
-        xs[STAGE_AT],
-        xs[ALLOTTED_AT],
-        xs[MEASURED_AT],
-        xs[EMISSION_AT],
-        xs[DOWNSTREAM_AT],
-        xs[COUNT_AT],
-    ) {
-        return false;
-    }
-    all_up_to(&xs[USERS_AT..CONSUMPTION_AT], LAST_NUMBER)
+    head_readable(xs) && all_up_to(&xs[USERS_AT..CONSUMPTION_AT], LAST_NUMBER)
 }
 
 // The test of the point-day that is read from plain numbers, with these user numbers.

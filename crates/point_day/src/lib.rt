@@ -29,7 +29,7 @@ pub const ROWS: usize = 15;
 
 pub const PAIRS: usize = ROWS * USERS;
 
-#[derive(Clone, Copy)]
+#[derive(Clone, Copy, Debug, PartialEq, Eq)]
 pub enum Stage {
     Provisional,
     FinalProvisional,
@@ -89,7 +89,7 @@ pub fn refuse(number: u8, day: PointDay) -> Outcome
 {
     Outcome {
         answer: Answer::Refused(number),
-        day: day,
+        day,
     }
 }
 

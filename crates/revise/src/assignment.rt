@@ -3,6 +3,7 @@ ghost use Rattle.revise.specs.Assigning.{Assignable, Assigned};
 
 use super::outstanding;
 use columns::shares;
+use point_day::USERS;
 
 // R assigned to these users: false if a whole amount would be too large. `column` starts with the users' whole amounts, the sum of whose
 // sizes `weight_sum` is handed in; afterwards it has the revisions with the shares added, if R was assigned.
@@ -17,8 +18,8 @@ pub fn assign<'a>(
     ensures { Assigned amount users.now revision.now column.old result column.new }
 {
     let n = users.len();
-    let mut shares = point_day::no_amounts();
-    let mut wholes = point_day::no_amounts();
+    let mut shares = numbers::repeat::<i64, USERS>(0);
+    let mut wholes = numbers::repeat::<i64, USERS>(0);
     shares::share_out(amount, users, &column[..n], weight_sum, &mut shares);
     outstanding::add_columns(&column[..n], &shares, &mut wholes);
     if taken::wholes_too_large(&wholes) {

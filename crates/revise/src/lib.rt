@@ -32,10 +32,7 @@ pub enum ReviseTest {
 fn is_revisable(stage: Stage, allotted: bool) -> bool
     ensures { result ≡ both (provisional stage) allotted }
 {
-    if state::is_provisional(stage) {
-        return allotted;
-    }
-    false
+    state::is_provisional(stage) && allotted
 }
 
 // The tests of a revise by any tolerance on a point-day with these revisions, of which `state` is the test. `column` holds its whole

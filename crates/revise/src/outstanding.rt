@@ -23,9 +23,7 @@ pub fn add_columns<'a>(xs: &'a [i64], ys: &'a [i64], sums: &mut [i64])
     requires by_index { ((i : ℕ) → Within SUMMABLE (atZ xs.now i)) × ((i : ℕ) → Within SUMMABLE (atZ ys.now i)) }
     ensures { sums.new ≡ table (λ i. atZ xs.now i +ℤ atZ ys.now i) (length xs.now) ++ drop (length xs.now) sums.old }
 {
-    let mut i = 0;
-    while i < xs.len() {
+    for i in 0..xs.len() {
         sums[i] = numbers::plus(xs[i], ys[i]);
-        i += 1;
     }
 }

@@ -15,7 +15,7 @@ ghost use Rattle.taken.specs.Tested.{Finds};
 ghost use Rattle.stand_in.specs.Rows.{rows_in};
 ghost use Rattle.stand_in.specs.StandsIn.{Tested};
 
-use point_day::{Answer, Outcome, PointDay, ROWS, StandInRows, TOLERANCE};
+use point_day::{Answer, Outcome, PointDay, ROWS, StandInRows, TOLERANCE, USERS};
 use taken::StateTest;
 
 // What the tests of a stand-in find: a refusal, or the place of the row that is used, from 0.
@@ -79,7 +79,7 @@ pub fn stand_in_lists<'a>(
     ensures { outcome (answer_of result.answer) result.day ≡ called (stand_in tolerance (rows_of (rows_in counts.now users.now amounts.now))) day }
 {
     let state = taken::test_day(day);
-    let mut shares = point_day::no_amounts();
+    let mut shares = numbers::repeat::<i64, USERS>(0);
     let test = stand_in_test(state, counts, users, amounts, tolerance, &mut shares);
     match test {
         StandInTest::Refused(number) => point_day::refuse(number, day),

@@ -14,25 +14,7 @@ use point_day::{PointDay, Stage, USERS};
 pub fn is_open(stage: Stage, allotted: bool, count: usize) -> bool
     ensures { result ≡ both (provisional stage) (both (not allotted) (eqb count 0)) }
 {
-    if !state::is_provisional(stage) {
-        return false;
-    }
-    if allotted {
-        return false;
-    }
-    count == 0
-}
-
-// User numbers written over the start of a column.
-fn put_users(users: &[u16], column: &mut [u16])
-    requires { length users.now ≤ length column.old }
-    ensures { column.new ≡ users.now ++ drop (length users.now) column.old }
-{
-    let mut i = 0;
-    while i < users.len() {
-        column[i] = users[i];
-        i += 1;
-    }
+    state::is_provisional(stage) && !allotted && count == 0
 }
 
 // Opening a day with a list: its users join, with shares as their revisions, and the stage is allotted.
@@ -42,7 +24,7 @@ pub fn opened(day: PointDay, users: &[u16], shares: [i64; USERS]) -> PointDay
 {
     let count = users.len();
     let mut column = day.users;
-    put_users(users, &mut column);
+    column[..count].copy_from_slice(users);
     PointDay {
         allotted: true,
         count: count,

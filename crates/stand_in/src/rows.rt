@@ -15,14 +15,11 @@ fn numbers_right(users: &[u16]) -> bool
     ensures { result ≡ both (every is_number users.now) (rising users.now) }
 {
     let mut last = 0;
-    let mut i = 0;
-    while i < users.len() {
-        let user = users[i];
+    for &user in users {
         if user <= last {
             return false;
         }
         last = user;
-        i += 1;
     }
     true
 }
@@ -31,10 +28,7 @@ fn numbers_right(users: &[u16]) -> bool
 fn row_right(users: &[u16], amounts: &[i64]) -> bool
     ensures { result ≡ both (both (every is_number users.now) (rising users.now)) (every (no_more AMOUNT) amounts.now) }
 {
-    if !numbers_right(users) {
-        return false;
-    }
-    columns::all_limited(amounts)
+    numbers_right(users) && columns::all_limited(amounts)
 }
 
 // Whether each of the rows is.
@@ -42,8 +36,7 @@ fn each_row_right<'a>(counts: &'a [usize], users: &'a [u16], amounts: &'a [i64])
     requires { (length counts.now ≡ ROWS) × (length users.now ≡ USERS * ROWS) × (length amounts.now ≡ USERS * ROWS) }
     ensures { result ≡ every row_right (rows_of (rows counts.now users.now amounts.now)) }
 {
-    let mut i = 0;
-    while i < ROWS {
+    for i in 0..ROWS {
         let n = counts[i];
         if USERS < n {
             return false;
@@ -53,32 +46,23 @@ fn each_row_right<'a>(counts: &'a [usize], users: &'a [u16], amounts: &'a [i64])
         if !row_right(&users[from..to], &amounts[from..to]) {
             return false;
         }
-        i += 1;
     }
     true
 }
 
 // Whether three lists have the lengths of lists that hold rows.
+#[tactic(auto, unfolding(crate::specs::Rows::rows_readable))]
 fn rows_readable<'a>(counts: &'a [usize], users: &'a [u16], amounts: &'a [i64]) -> bool
     ensures { result ≡ rows_readable counts.now users.now amounts.now }
 {
-    if counts.len() != ROWS {
-        return false;
-    }
-    if users.len() != PAIRS {
-        return false;
-    }
-    amounts.len() == PAIRS
+    counts.len() == ROWS && users.len() == PAIRS && amounts.len() == PAIRS
 }
 
 // Whether the rows that three lists hold are in their range; lists of other lengths hold none that are.
 pub fn rows_right<'a>(counts: &'a [usize], users: &'a [u16], amounts: &'a [i64]) -> bool
     ensures { result ≡ every row_right (rows_of (rows_in counts.now users.now amounts.now)) }
 {
-    if !rows_readable(counts, users, amounts) {
-        return false;
-    }
-    each_row_right(counts, users, amounts)
+    rows_readable(counts, users, amounts) && each_row_right(counts, users, amounts)
 }
 
 // The nearest row with any pair, from 0; so many as there are if none has.
@@ -86,14 +70,7 @@ pub fn nearest_filled(counts: &[usize]) -> usize
     requires { length counts.now ≡ ROWS }
     ensures { Nearest counts.now result }
 {
-    let mut row = 0;
-    while row < ROWS {
-        if counts[row] != 0 {
-            return row;
-        }
-        row += 1;
-    }
-    row
+    counts.iter().position(|&n| n != 0).unwrap_or(ROWS)
 }
 
 // The user numbers of a row.

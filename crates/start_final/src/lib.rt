@@ -18,11 +18,7 @@ use taken::StateTest;
 fn is_last(stage: Stage) -> bool
     ensures { result ≡ last_stage stage }
 {
-    match stage {
-        Stage::Provisional => false,
-        Stage::FinalProvisional => false,
-        Stage::FinalDefinitive => true,
-    }
+    stage == Stage::FinalDefinitive
 }
 
 // The stage after a stage.
@@ -40,10 +36,7 @@ pub fn next_stage(stage: Stage) -> Stage
 fn cannot_start(allotted: bool, stage: Stage) -> bool
     ensures { result ≡ either (not allotted) (last_stage stage) }
 {
-    if allotted {
-        return is_last(stage);
-    }
-    true
+    !allotted || is_last(stage)
 }
 
 // The tests of a start-final on a point-day, of which `state` is the test: 0, or the number of the refusal.
@@ -64,19 +57,13 @@ pub fn start_final_test(state: StateTest) -> u8
 fn restart(day: PointDay) -> PointDay
     ensures { result ≡ restarted day }
 {
-    let before = day.stage;
-    let stage = next_stage(before);
-    let consumption = point_day::no_cells();
-    let losses = point_day::no_cells();
-    let balance = point_day::no_cells();
-    let unrevised = point_day::no_amounts();
     PointDay {
-        stage: stage,
+        stage: next_stage(day.stage),
         allotted: false,
-        consumption: consumption,
-        losses: losses,
-        balance: balance,
-        revision: unrevised,
+        consumption: numbers::repeat(0),
+        losses: numbers::repeat(0),
+        balance: numbers::repeat(0),
+        revision: numbers::repeat(0),
         ..day
     }
 }
@@ -90,9 +77,8 @@ pub fn start_final(day: PointDay) -> Outcome
     if number != 0 {
         return point_day::refuse(number, day);
     }
-    let next = restart(day);
     Outcome {
         answer: Answer::Done,
-        day: next,
+        day: restart(day),
     }
 }

@@ -25,7 +25,7 @@ pub enum Amount {
     Known(u64),
 }
 
-#[derive(Clone, Copy)]
+#[derive(Clone, Copy, Debug, PartialEq, Eq)]
 pub enum Toll {
     Toll34,
     OtherToll,
@@ -51,6 +51,7 @@ pub fn is_amount(amount: Amount) -> bool
 }
 
 // A computed consumption, refused above the limit.
+#[tactic(auto, unfolding(crate::specs::Amounts::limited, calendar::specs::Answers::tested))]
 pub fn limited_to(kwh: u64) -> NumberAnswer
     ensures { answer_of result ≡ limited kwh }
 {
@@ -61,18 +62,11 @@ pub fn limited_to(kwh: u64) -> NumberAnswer
 }
 
 // Whether the contracted flows are in their ranges.
+#[tactic(auto, unfolding(crate::specs::Amounts::flows_right))]
 pub fn are_flows(flows: Flows) -> bool
     ensures { result ≡ flows_right flows }
 {
-    let yearly = flows.yearly;
-    let daily = flows.daily;
-    if !is_amount(yearly) {
-        return false;
-    }
-    if !is_amount(daily) {
-        return false;
-    }
-    flows.factor as u64 <= THOUSAND
+    is_amount(flows.yearly) && is_amount(flows.daily) && u64::from(flows.factor) <= THOUSAND
 }
 
 // A new consumer's daily consumption from the yearly flow.
@@ -101,11 +95,8 @@ pub fn new_consumption(flows: Flows) -> Amount
     requires { flows_right flows ≡ true }
     ensures { result ≡ new_consumption flows }
 {
-    let toll = flows.toll;
-    let yearly = flows.yearly;
-    let daily = flows.daily;
-    match toll {
-        Toll::Toll34 => from_year(yearly),
-        Toll::OtherToll => from_day(flows.factor, daily),
+    match flows.toll {
+        Toll::Toll34 => from_year(flows.yearly),
+        Toll::OtherToll => from_day(flows.factor, flows.daily),
     }
 }

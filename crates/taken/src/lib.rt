@@ -67,52 +67,38 @@ fn head_right(measurement: Measurement, n: usize, users: &[u16]) -> bool
 }
 
 // Whether the consumption and losses of each of n users are low.
-fn all_low<'a>(consumption: &'a [i64], losses: &'a [i64], n: usize) -> bool
+fn all_low(consumption: &[i64], losses: &[i64], n: usize) -> bool
     requires { (n ≤ USERS) × (length consumption.now ≡ CELLS) × (length losses.now ≡ CELLS) }
     ensures { Decides result ((s : ℕ) → s < n → LowSlot consumption.now losses.now s) }
 {
-    let mut s = 0;
-    while s < n {
+    for s in 0..n {
         if !state::user_low(consumption, losses, s) {
             return false;
         }
-        s += 1;
     }
     true
 }
 
 // Consumption and losses of n users, all low, into a column.
-fn add_offtakes<'a>(
-    consumption: &'a [i64],
-    losses: &'a [i64],
-    n: usize,
-    wholes: &mut [i64],
-) -> Tally
+fn add_offtakes(consumption: &[i64], losses: &[i64], n: usize, wholes: &mut [i64]) -> Tally
     requires { (n ≤ USERS) × (length consumption.now ≡ CELLS) × (length losses.now ≡ CELLS) × (length wholes.old ≡ USERS) × ((s : ℕ) → s < n → LowSlot consumption.now losses.now s) }
     ensures { Found (Offtakes n consumption.now losses.now) (offtake_at consumption.now losses.now) n wholes.old result wholes.new }
 {
     let mut sum: i64 = 0;
-    let mut s = 0;
-    while s < n {
+    for s in 0..n {
         let offtake = state::user_offtake(consumption, losses, s);
         wholes[s] = offtake;
-        sum = sum + offtake;
-        s += 1;
+        sum += offtake;
     }
     Tally {
         right: sum <= SUM,
-        sum: sum,
+        sum,
     }
 }
 
 // Consumption and losses of n users: each is tested before it is added, so that nothing overflows on any values. (Two passes, of which each
 // needs fewer registers, are faster than one.)
-fn offtakes_test<'a>(
-    consumption: &'a [i64],
-    losses: &'a [i64],
-    n: usize,
-    wholes: &mut [i64],
-) -> Tally
+fn offtakes_test(consumption: &[i64], losses: &[i64], n: usize, wholes: &mut [i64]) -> Tally
     requires { (n ≤ USERS) × (length consumption.now ≡ CELLS) × (length losses.now ≡ CELLS) × (length wholes.old ≡ USERS) }
     ensures { Found (Offtakes n consumption.now losses.now) (offtake_at consumption.now losses.now) n wholes.old result wholes.new }
 {
@@ -123,12 +109,12 @@ fn offtakes_test<'a>(
 }
 
 // The amounts of n users while entering: whole amounts are consumption and losses.
-fn entering_test<'a>(
+fn entering_test(
     n: usize,
-    consumption: &'a [i64],
-    losses: &'a [i64],
-    balance: &'a [i64],
-    revision: &'a [i64],
+    consumption: &[i64],
+    losses: &[i64],
+    balance: &[i64],
+    revision: &[i64],
     wholes: &mut [i64],
 ) -> Tally
     requires { (n ≤ USERS) × Lengths consumption.now losses.now balance.now revision.now × (length wholes.old ≡ USERS) }
@@ -150,47 +136,43 @@ fn entering_test<'a>(
 }
 
 // Whether the balances and the revision of each of n users are in range.
-fn all_sized<'a>(balance: &'a [i64], revision: &'a [i64], n: usize) -> bool
+fn all_sized(balance: &[i64], revision: &[i64], n: usize) -> bool
     requires { (n ≤ USERS) × (length balance.now ≡ CELLS) × (length revision.now ≡ USERS) }
     ensures { Decides result ((s : ℕ) → s < n → SizedSlot balance.now revision.now s) }
 {
-    let mut s = 0;
-    while s < n {
+    for s in 0..n {
         if !state::user_sized(balance, revision, s) {
             return false;
         }
-        s += 1;
     }
     true
 }
 
 // Balances and revisions of n users, all in range, added to a column of consumption and losses.
-fn add_balances<'a>(balance: &'a [i64], revision: &'a [i64], n: usize, wholes: &mut [i64]) -> Tally
+fn add_balances(balance: &[i64], revision: &[i64], n: usize, wholes: &mut [i64]) -> Tally
     requires { (n ≤ USERS) × (length balance.now ≡ CELLS) × (length revision.now ≡ USERS) × (length wholes.old ≡ USERS) × ((s : ℕ) → s < n → Within (10 * ROOM) (atZ wholes.old s)) × ((s : ℕ) → s < n → SizedSlot balance.now revision.now s) }
     ensures { Found (Balances n wholes.old balance.now revision.now) (added_at wholes.old balance.now revision.now) n wholes.old result wholes.new }
 {
     let mut sum: i64 = 0;
-    let mut s = 0;
-    while s < n {
+    for s in 0..n {
         let whole = numbers::plus(wholes[s], state::user_balance(balance, revision, s));
         if !numbers::size_at_most(whole, AMOUNT) {
             return wrong();
         }
         wholes[s] = whole;
-        sum = sum + whole;
-        s += 1;
+        sum += whole;
     }
     if sum < 0 {
         return wrong();
     }
     Tally {
         right: sum <= SUM,
-        sum: sum,
+        sum,
     }
 }
 
 // Balances and revisions of n users, added to a column of consumption and losses: each is tested before it is added.
-fn balances_test<'a>(balance: &'a [i64], revision: &'a [i64], n: usize, wholes: &mut [i64]) -> Tally
+fn balances_test(balance: &[i64], revision: &[i64], n: usize, wholes: &mut [i64]) -> Tally
     requires { (n ≤ USERS) × (length balance.now ≡ CELLS) × (length revision.now ≡ USERS) × (length wholes.old ≡ USERS) × ((s : ℕ) → s < n → Within (10 * ROOM) (atZ wholes.old s)) }
     ensures { Found (Balances n wholes.old balance.now revision.now) (added_at wholes.old balance.now revision.now) n wholes.old result wholes.new }
 {
@@ -201,11 +183,11 @@ fn balances_test<'a>(balance: &'a [i64], revision: &'a [i64], n: usize, wholes: 
 }
 
 // Whether nothing stands past the last of n users.
-fn none_past<'a>(
-    consumption: &'a [i64],
-    losses: &'a [i64],
-    balance: &'a [i64],
-    revision: &'a [i64],
+fn none_past(
+    consumption: &[i64],
+    losses: &[i64],
+    balance: &[i64],
+    revision: &[i64],
     n: usize,
 ) -> bool
     requires { n ≤ USERS }
@@ -224,13 +206,13 @@ fn none_past<'a>(
 }
 
 // The amounts of n users once allotted: whole amounts are consumption and losses, and then balances and revision.
-fn allotted_test<'a>(
+fn allotted_test(
     measurement: Measurement,
     n: usize,
-    consumption: &'a [i64],
-    losses: &'a [i64],
-    balance: &'a [i64],
-    revision: &'a [i64],
+    consumption: &[i64],
+    losses: &[i64],
+    balance: &[i64],
+    revision: &[i64],
     wholes: &mut [i64],
 ) -> Tally
     requires { (n ≤ USERS) × Lengths consumption.now losses.now balance.now revision.now × (length wholes.old ≡ USERS) }
@@ -253,15 +235,15 @@ fn allotted_test<'a>(
 }
 
 // The tests of a point-day in parts.
-fn parts_test<'a>(
+fn parts_test(
     allotted: bool,
     measurement: Measurement,
     n: usize,
-    users: &'a [u16],
-    consumption: &'a [i64],
-    losses: &'a [i64],
-    balance: &'a [i64],
-    revision: &'a [i64],
+    users: &[u16],
+    consumption: &[i64],
+    losses: &[i64],
+    balance: &[i64],
+    revision: &[i64],
     wholes: &mut [i64],
 ) -> Tally
     requires { (length users.now ≡ USERS) × Lengths consumption.now losses.now balance.now revision.now × (length wholes.old ≡ USERS) }
@@ -302,36 +284,36 @@ pub struct StateTest {
 pub fn untaken() -> StateTest
     ensures { result.taken ≡ false }
 {
-    let users = point_day::no_users();
-    let wholes = point_day::no_amounts();
+    let users = numbers::repeat::<_, USERS>(0);
+    let wholes = numbers::repeat::<_, USERS>(0);
     StateTest {
         taken: false,
         stage: Stage::Provisional,
         allotted: false,
         measurement: Measurement::Unmeasured,
         count: 0,
-        users: users,
-        wholes: wholes,
+        users,
+        wholes,
         sum: 0,
     }
 }
 
 // The test of a point-day in parts: fields of a point-day by value, or parts of a longer list, whose lengths are told to the compiler.
-pub fn test_state<'a>(
+pub fn test_state(
     stage: Stage,
     allotted: bool,
     measurement: Measurement,
     count: usize,
     users: [u16; USERS],
-    consumption: &'a [i64],
-    losses: &'a [i64],
-    balance: &'a [i64],
-    revision: &'a [i64],
+    consumption: &[i64],
+    losses: &[i64],
+    balance: &[i64],
+    revision: &[i64],
 ) -> StateTest
     requires { Lengths consumption.now losses.now balance.now revision.now }
     ensures { StateOf (point_day stage allotted measurement count users consumption.now losses.now balance.now revision.now) result }
 {
-    let mut wholes = point_day::no_amounts();
+    let mut wholes = numbers::repeat::<_, USERS>(0);
     let tally = parts_test(
         allotted,
         measurement,
@@ -345,12 +327,12 @@ pub fn test_state<'a>(
     );
     StateTest {
         taken: tally.right,
-        stage: stage,
-        allotted: allotted,
-        measurement: measurement,
-        count: count,
-        users: users,
-        wholes: wholes,
+        stage,
+        allotted,
+        measurement,
+        count,
+        users,
+        wholes,
         sum: tally.sum,
     }
 }

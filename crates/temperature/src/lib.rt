@@ -2,7 +2,6 @@
 #![tactic(auto)]
 
 ghost use Rattle.std.specs.Prelude.{◌≡◌, true, ◌≤◌, length};
-ghost use Rattle.numbers.specs.Sums.{total};
 ghost use Rattle.numbers.specs.Lists.{every};
 ghost use Rattle.temperature.specs.Temperature.{MOST_DEGREES, correction, Sound, MonthMean, sum, divided, MOST_DAYS, is_degrees, mean, winters_mean, winter_right, winters_right};
 
@@ -25,6 +24,7 @@ pub struct Fraction {
 }
 
 // (g + 160) / (mean + 160), of a mean over no more days than two winters have together.
+#[tactic(auto, using(crate::proofs::Fractions::corrects), unfolding(crate::specs::Temperature::correction))]
 pub fn correction_of(g: u32, mean: Fraction) -> Fraction
     requires { (g ≤ MOST_DEGREES) × Sound mean }
     ensures { result ≡ correction g mean }
@@ -36,6 +36,7 @@ pub fn correction_of(g: u32, mean: Fraction) -> Fraction
 }
 
 // The average of two winters' means.
+#[tactic(auto, using(crate::proofs::Fractions::cross, crate::proofs::Fractions::bottoms))]
 fn average_of(one: Fraction, other: Fraction) -> Fraction
     requires { MonthMean one × MonthMean other }
     ensures { result ≡ divided (sum one other) 2 }
@@ -57,79 +58,50 @@ pub fn are_degrees(g: u32) -> bool
 pub fn are_all_degrees(days: &[u32]) -> bool
     ensures { result ≡ every is_degrees days.now }
 {
-    let mut i = 0;
-    while i < days.len() {
-        if MOST_DEGREES < days[i] {
-            return false;
-        }
-        i += 1;
-    }
-    true
-}
-
-// The sum of the degree days of a month.
-fn total_of(days: &[u32]) -> u64
-    requires { (length days.now ≤ MOST_DAYS) × (every is_degrees days.now ≡ true) }
-    ensures { result ≡ total days.now }
-{
-    let mut sum: u64 = 0;
-    let mut i = 0;
-    while i < days.len() {
-        sum += days[i] as u64;
-        i += 1;
-    }
-    sum
+    days.iter().all(|&g| are_degrees(g))
 }
 
 // The mean of the degree days of a month.
+#[tactic(auto, using(crate::proofs::Chains::total_is_sum), unfolding(crate::specs::Temperature::mean))]
 pub fn mean_of(days: &[u32]) -> Fraction
     requires { (length days.now ≤ MOST_DAYS) × (every is_degrees days.now ≡ true) }
     ensures { result ≡ mean days.now }
 {
     Fraction {
-        top: total_of(days),
+        top: days.iter().map(|&g| g as u64).sum(),
         bottom: days.len() as u64,
     }
 }
 
 // Whether a winter's days are as many as a month has, and their degree days in range.
+#[tactic(auto, unfolding(crate::specs::Temperature::winter_right))]
 fn is_winter(days: &[u32]) -> bool
     ensures { result ≡ winter_right days.now }
 {
-    if days.len() < FEWEST_DAYS as usize {
-        return false;
-    }
-    if (MOST_DAYS as usize) < days.len() {
-        return false;
-    }
-    are_all_degrees(days)
+    FEWEST_DAYS as usize <= days.len() && days.len() <= MOST_DAYS as usize && are_all_degrees(days)
 }
 
 // Whether one or two winters are as stated. The second is looked at if there are two.
+#[tactic(auto, unfolding(crate::specs::Temperature::winters_right))]
 pub fn are_winters(winters: u8, first: &[u32], second: &[u32]) -> bool
     ensures { result ≡ winters_right winters first.now second.now }
 {
-    if winters == 1 {
-        return is_winter(first);
+    match winters {
+        1 => is_winter(first),
+        2 => is_winter(first) && is_winter(second),
+        _ => false,
     }
-    if winters != 2 {
-        return false;
-    }
-    if !is_winter(first) {
-        return false;
-    }
-    is_winter(second)
 }
 
 // The average of the means of one or two winters.
+#[tactic(auto, using(crate::proofs::Winters::winter_means), unfolding(crate::specs::Temperature::winters_mean))]
 pub fn mean_of_winters(winters: u8, first: &[u32], second: &[u32]) -> Fraction
     requires { winters_right winters first.now second.now ≡ true }
     ensures { result ≡ winters_mean winters first.now second.now }
 {
-    let one = mean_of(first);
     if winters == 1 {
-        return one;
+        mean_of(first)
+    } else {
+        average_of(mean_of(first), mean_of(second))
     }
-    let other = mean_of(second);
-    average_of(one, other)
 }

@@ -1,69 +1,66 @@
 // Little-endian numbers, and decimal text in a lent buffer.
 #![tactic(auto)]
 
-ghost use Rattle.std.specs.Prelude.{◌≡◌, ◌+◌, ◌≤◌, ◌<◌, nat_abs, length};
+ghost use Rattle.std.specs.Prelude.{◌≡◌, ◌+◌, ◌^◌, ◌≤◌, ◌<◌, nat_abs, length};
 ghost use Rattle.wire.specs.Bytes.{little_endian, signed_64};
-ghost use Rattle.wire.specs.Text.{natural, decimal, written};
+ghost use Rattle.wire.specs.Text.{decimal, written};
 
-// The most characters of a signed number of 64 bits.
-pub const MOST_DIGITS: usize = 20;
-
-fn wide(x: u8) -> u64
-    ensures { result ≡ x }
-{
-    x as u64
-}
+use itoa::Buffer;
 
 // Numbers read from bytes, little-endian.
+
+// The number of N bytes from place i on.
+pub fn read<const N: usize>(s: &[u8], i: usize) -> u64
+    requires { (N ≤ 8) × (i + N ≤ length s.now) }
+    ensures { (result ≡ little_endian N s.now i) × (result < 256 ^ N) }
+{
+    let mut n = 0;
+    for k in (0..N).rev() {
+        n = 256 * n + s[i + k] as u64;
+    }
+    n
+}
 
 pub fn read_u8(s: &[u8], i: usize) -> u64
     requires { i < length s.now }
     ensures { (result ≡ little_endian 1 s.now i) × (result < 256) }
 {
-    wide(s[i])
+    read::<1>(s, i)
 }
 
 pub fn read_u16(s: &[u8], i: usize) -> u64
     requires { i + 2 ≤ length s.now }
     ensures { (result ≡ little_endian 2 s.now i) × (result < 65536) }
 {
-    read_u8(s, i) + 256 * read_u8(s, i + 1)
+    read::<2>(s, i)
 }
 
 pub fn read_u32(s: &[u8], i: usize) -> u64
     requires { i + 4 ≤ length s.now }
     ensures { (result ≡ little_endian 4 s.now i) × (result < 4294967296) }
 {
-    read_u16(s, i) + 65536 * read_u16(s, i + 2)
+    read::<4>(s, i)
 }
 
 pub fn read_u64(s: &[u8], i: usize) -> u64
     requires { i + 8 ≤ length s.now }
     ensures { result ≡ little_endian 8 s.now i }
 {
-    read_u32(s, i) + 4294967296 * read_u32(s, i + 4)
+    read::<8>(s, i)
 }
 
 // The signed number that 64 bits stand for.
 pub fn to_signed(bits: u64) -> i64
     ensures { result ≡ signed_64 bits }
 {
-    if bits < 9223372036854775808 {
-        bits as i64
-    } else {
-        -1 - ((18446744073709551615 - bits) as i64)
-    }
+    bits.cast_signed()
 }
 
 // The size of x, of any x.
 pub fn magnitude(x: i64) -> u64
     ensures { result ≡ nat_abs x }
 {
-    if x < 0 {
-        (-(x + 1)) as u64 + 1
-    } else {
-        x as u64
-    }
+    x.unsigned_abs()
 }
 
 // Text put into a buffer from place i on; the answer is the place after it.
@@ -72,34 +69,18 @@ pub fn put_text(out: &mut [u8], i: usize, text: &[u8]) -> usize
     ensures value { result ≡ i + length text.now }
     ensures out_after { out.new ≡ written out.old i text.now }
 {
-    let mut j = 0;
-    while j < text.len() {
-        out[i + j] = text[j];
-        j += 1;
-    }
-    i + j
-}
-
-// The decimal digits of a number.
-fn put_natural(out: &mut [u8], i: usize, n: u64) -> usize
-    requires { i + 20 ≤ length out.old }
-    ensures value { (result ≡ i + length (natural n)) × (result ≤ i + 20) }
-    ensures out_after { out.new ≡ written out.old i (natural n) }
-{
-    let mut text = [0u8; MOST_DIGITS];
-    let k = io::decimal(n, &mut text);
-    put_text(out, i, &text[..k])
+    let end = i + text.len();
+    out[i..end].copy_from_slice(text);
+    end
 }
 
 // A signed number.
+#[tactic(auto, using(crate::proofs::Text::decimal_is))]
 pub fn put_decimal(out: &mut [u8], i: usize, x: i64) -> usize
     requires { i + 21 ≤ length out.old }
     ensures value { (result ≡ i + length (decimal x)) × (result ≤ i + 21) }
     ensures out_after { out.new ≡ written out.old i (decimal x) }
 {
-    if x < 0 {
-        out[i] = b'-';
-        return put_natural(out, i + 1, magnitude(x));
-    }
-    put_natural(out, i, magnitude(x))
+    let mut buffer = Buffer::new();
+    put_text(out, i, buffer.format(x).as_bytes())
 }

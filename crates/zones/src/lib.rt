@@ -27,22 +27,19 @@ pub enum ProvinceAnswer {
 }
 
 // The zone of a degree-day value, in hundredths.
+#[tactic(auto, unfolding(crate::specs::Zones::zone_call, crate::specs::Zones::zone_of, calendar::specs::Answers::tested))]
 pub fn zone_of(hundredths: u32) -> NumberAnswer
     ensures { Answers.answer_of result ≡ zone_call hundredths }
 {
     if MOST_HUNDREDTHS < hundredths {
         return NumberAnswer::Refused(OUT_OF_RANGE);
     }
-    if hundredths < 170 {
-        return NumberAnswer::Given(1);
-    }
-    if hundredths < 240 {
-        return NumberAnswer::Given(2);
-    }
-    if hundredths <= 380 {
-        return NumberAnswer::Given(3);
-    }
-    NumberAnswer::Given(4)
+    NumberAnswer::Given(match hundredths {
+        ..170 => 1,
+        170..240 => 2,
+        240..=380 => 3,
+        _ => 4,
+    })
 }
 
 // The provinces in the order of section 1.6 of PD-02.
@@ -98,19 +95,13 @@ const PROVINCES: [Province; 48] = [
 ];
 
 // The value and the zone of a province, numbered from 1.
+#[tactic(auto, unfolding(crate::specs::Zones::province_call, crate::specs::Zones::provinces, calendar::specs::Answers::tested))]
 pub fn province_of(number: u32) -> ProvinceAnswer
     ensures { answer_of result ≡ province_call number }
 {
-    if number < 1 {
+    if number < 1 || LAST_PROVINCE < number {
         return ProvinceAnswer::Refused(OUT_OF_RANGE);
     }
-    if LAST_PROVINCE < number {
-        return ProvinceAnswer::Refused(OUT_OF_RANGE);
-    }
-    let i = number as usize - 1;
-    let p = PROVINCES[i];
-    ProvinceAnswer::ValueAndZone {
-        value: p.mean,
-        zone: p.zone,
-    }
+    let Province { mean, zone } = PROVINCES[number as usize - 1];
+    ProvinceAnswer::ValueAndZone { value: mean, zone }
 }

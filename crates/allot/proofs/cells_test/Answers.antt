@@ -32,6 +32,11 @@ minus-day_balance-requires c =
     let w = sum_small _ k.sized k.is_taken a.entering k.sum in
     (rw (back (within_pos net.result) (omega (arith, net.ensures.1))) record { size = omega (arith, net.ensures.1) }, subst⁻¹ (Within SAFE) (back w (omega arith)) (record { size = omega (arith, w.size) }))
 
+pub invariant_of-offtakes : goal.invariant_of-offtakes
+invariant_of-offtakes c =
+    let k = (allottable_parts c.requires.0.holds).has.known in
+    record { in_range = cells_in_range _ k.sized k.is_taken }
+
 pub balance_cells-requires : goal.balance_cells-requires
 balance_cells-requires c =
     let a = allottable_parts c.requires.0.holds in
@@ -42,7 +47,7 @@ balance_cells-requires c =
     let b = c.minus-day_balance.ensures ∙ difference_is _ z t a.entering net.0 net.1 k.sum in
     let small = balance_small _ z t a.entering a.measured a.users in
     let f = facts _ z t in
-    let room : length c.args.state.wholes ≡ USERS = search rules in record { within = (rw (b, back small (omega arith)) small, cells_in_range _ z t, z.users, none_long c.requires.1); n_nonzero = (omega (arith, a.users), f.few, f.apart, omega (arith, f.few, room)) }
+    let room : length c.args.state.wholes ≡ USERS = search rules in record { within = (rw (b, back small (omega arith)) small, z.users, none_long c.requires.1); n_nonzero = (omega (arith, a.users), f.few, f.apart, omega (arith, f.few, room)) }
 
 pub whole_amounts-requires : goal.whole_amounts-requires
 whole_amounts-requires c =

@@ -13,7 +13,7 @@ use Rattle.numbers.proofs.Sums.{lt_or_ge, length_table, at_table}
 use Rattle.proration.specs.Proration.{PARTIES, LARGEST_WEIGHT}
 use Rattle.point_day.specs.Limits.{USERS, KINDS, LIMIT}
 use Rattle.point_day.specs.Calls.{by_basis}
-use Rattle.allot.specs.UserWeights.{CellsInRange, consumption_and_losses, weight_at, weights, by_all_kinds, basis_weights, basis}
+use Rattle.allot.specs.UserWeights.{CellsInRange, consumption_and_losses, weight_at, weights, by_all_kinds, basis_weights}
 
 -- ---- a user's weight is no more than all consumption and losses
 
@@ -68,18 +68,12 @@ module _ (cs ls : List ℤ) (h : CellsInRange cs ls) where
 -- ---- the basis
 
 module _ (cs ls : List ℤ) (n : ℕ) {ws : List ℕ} {x : ℕ} (e : ws ≡ weights false cs ls n) (t : x ≡ total ws) where
-  basis_is : {p : Bool} {y : ℕ} → p ≡ by_all_kinds cs ls n → y ≡ total (basis_weights cs ls n) → record { all = p; total = y } ≡ basis cs ls n
-  basis_is b w = ap₂ (λ p y. record { all = p; total = y }) b w
-
-  pub by_kinds_2_to_5 : (x ≡ 0 → ⊥) → (record { all = false; total = x } ≡ basis cs ls n) × (ws ≡ basis_weights cs ls n)
+  pub by_kinds_2_to_5 : (x ≡ 0 → ⊥) → (false ≡ by_all_kinds cs ls n) × (ws ≡ basis_weights cs ls n)
   by_kinds_2_to_5 h =
       let b : false ≡ by_all_kinds cs ls n = sym (ne_eqb (total (weights false cs ls n)) 0 (λ z. h (t ∙ ap total e ∙ z))) in
-      let w : ws ≡ basis_weights cs ls n = e ∙ ap (λ p. weights p cs ls n) b in
-      (basis_is b (t ∙ ap total w), w)
+      (b, e ∙ ap (λ p. weights p cs ls n) b)
 
-  pub by_all : x ≡ 0 → {m : ℕ} → m ≡ n → {vs : List ℕ} → vs ≡ weights true cs ls m → {y : ℕ} → y ≡ total vs
-      → (record { all = true; total = y } ≡ basis cs ls n) × (vs ≡ basis_weights cs ls n)
-  by_all h q {vs} f u =
+  pub by_all : x ≡ 0 → {m : ℕ} → m ≡ n → {vs : List ℕ} → vs ≡ weights true cs ls m → (true ≡ by_all_kinds cs ls n) × (vs ≡ basis_weights cs ls n)
+  by_all h q f =
       let b : true ≡ by_all_kinds cs ls n = sym (eq-eqb (total (weights false cs ls n)) 0 (sym (ap total e) ∙ sym t ∙ h)) in
-      let w : vs ≡ basis_weights cs ls n = f ∙ ap₂ (λ p m. weights p cs ls m) b q in
-      (basis_is b (u ∙ ap total w), w)
+      (b, f ∙ ap₂ (λ p m. weights p cs ls m) b q)

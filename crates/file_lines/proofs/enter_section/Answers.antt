@@ -76,7 +76,7 @@ loop-j-init c =
     let told = c.enter_user-refusal.ensures.value ∙ ap (λ l. user_refusal l u i c.args.users.now) c.requires.3 in
     let us = c.enter_user-refusal.new.users in
     let joined = user_joined c.requires.4 u low told c.if-refusal-ne0.false c.enter_user-refusal.ensures.users_after in
-    (omega arith, no_lines f (section_at f i) i us c.args.consumption.now c.args.losses.now joined.entered)
+    no_lines f (section_at f i) i us c.args.consumption.now c.args.losses.now joined.entered
 
 pub overflow_mul-at : goal.overflow_mul-at
 overflow_mul-at c =
@@ -102,7 +102,7 @@ enter_line-so_far-requires c =
     let told = c.enter_user-refusal.ensures.value ∙ ap (λ l. user_refusal l u i c.args.users.now) c.requires.3 in
     let us = c.enter_user-refusal.new.users in
     let joined = user_joined c.requires.4 u low told c.if-refusal-ne0.false c.enter_user-refusal.ensures.users_after in
-    let t = c.loop-j.invariant.1.entered in
+    let t = c.loop-j.invariant.entered in
     (omega (arith, inside.section, offset, size), omega (arith, joined.room), sum_small t, limited_consumption t, limited_losses t)
 
 pub returns-in_default : goal.returns-in_default
@@ -126,7 +126,7 @@ returns-in_default c =
     let place = ap (λ a. (a + 2) + 7 * j) offset in
     let both = stopped c.in_default.is (Entered (i + 1) us cs ls) (section_calls f (section_at f i)) (entering i c.args.users.now c.args.consumption.now c.args.losses.now) (entering (i + 1) us cs ls)
     (section_stops f (section_at f i) i c.requires.4 u low named joined c.in_default.field-0
-    (lines_stop f (section_at f i) i us c.args.consumption.now c.args.losses.now (joined.here ∙ named) j c.loop-j.invariant.1 place named (record { answer = line.value; consumption = line.consumption_after; losses = line.losses_after }) c.in_default.field-0 c.in_default.is (omega (arith, size, c.loop-j-test.true)))) in
+    (lines_stop f (section_at f i) i us c.args.consumption.now c.args.losses.now (joined.here ∙ named) j c.loop-j.invariant place named (record { answer = line.value; consumption = line.consumption_after; losses = line.losses_after }) c.in_default.field-0 c.in_default.is (omega (arith, size, c.loop-j-test.true)))) in
     record { unless_refused = both.0; comes_to = both.1 }
 
 pub loop-j-preserved : goal.loop-j-preserved
@@ -147,10 +147,8 @@ loop-j-preserved c =
     let ls = c.enter_line-so_far.new.losses in
     let j = c.loop-j.j in
     let line = c.enter_line-so_far.ensures in
-    let place = ap (λ a. (a + 2) + 7 * j) offset in (
-      omega (arith, c.loop-j-test.true),
-      one_more_line f (section_at f i) i us c.args.consumption.now c.args.losses.now (joined.here ∙ named) j c.loop-j.invariant.1 place named (record { answer = line.value; consumption = line.consumption_after; losses = line.losses_after }) c.in-Offtake.more c.in-Offtake.is,
-    )
+    let place = ap (λ a. (a + 2) + 7 * j) offset in
+    one_more_line f (section_at f i) i us c.args.consumption.now c.args.losses.now (joined.here ∙ named) j c.loop-j.invariant place named (record { answer = line.value; consumption = line.consumption_after; losses = line.losses_after }) c.in-Offtake.more c.in-Offtake.is
 
 pub returns : goal.returns
 returns c =
@@ -169,7 +167,7 @@ returns c =
     let cs = c.loop-j.consumption in
     let ls = c.loop-j.losses in
     let all : c.loop-j.j ≡ line_count (section_at f i) = omega (arith, size) in record {
-      unless_refused = c.loop-j.invariant.1.entered;
+      unless_refused = c.loop-j.invariant.entered;
       comes_to = section_leads f (section_at f i) i c.requires.4 u low named joined cs ls
-          (subst (λ n. Leads (table (line_at f (section_at f i)) n) (entering (i + 1) us c.args.consumption.now c.args.losses.now) (entering (i + 1) us cs ls)) all c.loop-j.invariant.1.leads);
+          (subst (λ n. Leads (table (line_at f (section_at f i)) n) (entering (i + 1) us c.args.consumption.now c.args.losses.now) (entering (i + 1) us cs ls)) all c.loop-j.invariant.leads);
     }

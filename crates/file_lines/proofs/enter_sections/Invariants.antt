@@ -1,10 +1,6 @@
-use Prim.Native.Nat.{◌≤◌, ◌-◌}
 use Rattle.file_lines.proofs.SectionSteps.{Sections}
 use Rattle.file_lines.proofs.enter_sections.Given as goal
 
 abbrev pub invariant-loop-i : goal.invariant-loop-i
 invariant-loop-i l =
-    (l.i ≤ l.count) × Sections l.file l.initial.users l.initial.consumption l.initial.losses l.users l.consumption l.losses l.sum l.i
-
-abbrev pub decreases-loop-i : goal.decreases-loop-i
-decreases-loop-i l = l.count - l.i
+    Sections l.file l.initial.users l.initial.consumption l.initial.losses l.users l.consumption l.losses l.sum l.i

@@ -19,7 +19,7 @@ slice_bounds-revise_test-end c = omega (arith, long c.test_numbers-state.ensures
 pub revise_test-requires : goal.revise_test-requires
 revise_test-requires c =
     let w : length c.test_numbers-state.result.wholes ≡ USERS = search rules in
-    (λ y. record { day = day_in c.args.day.now; holds = record { known = known c.test_numbers-state.ensures y; revision = unfold day_in in refl } }, c.put.ensures ∙ put_all c.args.column.now c.test_numbers-state.result.wholes (omega (arith, w, c.requires)), omega arith)
+    (λ y. record { day = day_in c.args.day.now; holds = record { known = known c.test_numbers-state.ensures y; revision = unfold day_in in refl } }, c.copy_from_slice.ensures.after, omega arith)
 
 pub returns : goal.returns
 returns c =

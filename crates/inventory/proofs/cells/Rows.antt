@@ -7,6 +7,7 @@ use native.Mathlib.Omega.{arith}
 use native.Mathlib.Numerals.{add-one}
 use lib.IntN.{ℤ}
 use lib.ListN.{length, take, drop, length-append}
+use mir.Val.{bool_byte}
 use lib.Seq.{take_at, drop-append-add, drop-drop}
 use Rattle.numbers.specs.Sums.{bit, pick, sum, table, at, atZ}
 use Rattle.numbers.specs.Lists.{flat}
@@ -17,6 +18,11 @@ use Rattle.inventory.specs.Row.{ROW, is_row, row, Put}
 use Rattle.inventory.specs.Cells.{cell, cells, row_count}
 
 -- ---- the count of the rows
+
+-- a test as a number
+pub bool_bit : (b : Bool) → bool_byte b ≡ bit b
+bool_bit true = refl
+bool_bit false = refl
 
 module _ (cs ls bs : List ℤ) where
   pub count_none : 0 ≡ row_count cs ls bs 0

@@ -23,11 +23,6 @@ returns-then-state c = found (not-false _ c.if-not-state.false-raw) (λ d k. fai
 pub returns-then-user-eq0 : goal.returns-then-user-eq0
 returns-then-user-eq0 c = found (not-false _ c.if-not-state.false-raw) (λ d k. fails _ d 1 (join_2 _ d k.sized k.is_taken (k.allotted ∙ c.if-state.false) c.if-user-eq0.true))
 
-pub slot_of-requires : goal.slot_of-requires
-slot_of-requires c =
-    let long : length c.args.state.users ≡ USERS = search rules in
-    omega (arith, c.requires (not-false _ c.if-not-state.false-raw), long)
-
 pub returns-then-slot_of-count : goal.returns-then-slot_of-count
 returns-then-slot_of-count c =
     let n = c.args.user in

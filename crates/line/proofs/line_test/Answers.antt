@@ -1,12 +1,8 @@
 -- `line::line_test` meets its contract, outcome by outcome, on any point-day of which this is the test. Assumes nothing.
-use mathlib.Core.Path.{◌≡◌, refl, ◌∙◌}
-use native.Mathlib.Omega.{arith}
-use lib.ListN.{length}
-use borrow.Author.Rules.{rules}
+use mathlib.Core.Path.{refl, ◌∙◌}
 use borrow.Author.Tests.{not-true, not-false}
-use Rattle.point_day.specs.Limits.{USERS}
 use Rattle.point_day.proofs.Called.{called_untaken}
-use Rattle.taken.proofs.Facts.{found, not_found, sum_fits}
+use Rattle.taken.proofs.Facts.{found, not_found}
 use Rattle.line.proofs.Lining.{line_1, stands}
 use Rattle.line.proofs.line_test.Goals as goal
 
@@ -17,22 +13,6 @@ pub returns-then-state : goal.returns-then-state
 returns-then-state c =
     let x = c.args in
     found (not-false _ c.if-not-state.false-raw) (λ d k. line_1 x.user x.kind x.amount x.coefficient d k.sized k.is_taken (k.allotted ∙ c.if-state.true))
-
-pub slot_of-slot-requires : goal.slot_of-slot-requires
-slot_of-slot-requires c =
-    let long : length c.args.state.users ≡ USERS = search rules in
-    omega (arith, (c.requires (not-false _ c.if-not-state.false-raw)).0, long)
-
-pub overflow_cast-state : goal.overflow_cast-state
-overflow_cast-state c =
-    let f = sum_fits c.args.state.sum (c.requires (not-false _ c.if-not-state.false-raw)).1 in
-    rw f.0 (tt, omega (arith, f.1))
-
-pub slot_test-requires : goal.slot_test-requires
-slot_test-requires c =
-    let p = c.requires (not-false _ c.if-not-state.false-raw) in
-    let f = sum_fits c.args.state.sum p.1 in
-    (c.slot_of-slot.ensures.within, p.0, rw f.0 f.1)
 
 pub returns : goal.returns
 returns c =

@@ -10,23 +10,23 @@ use Rattle.months.proofs.Masks.{mask_more, more_fits}
 use Rattle.months.proofs.mask_of_month.Goals as goal
 
 pub loop-i-init : goal.loop-i-init
-loop-i-init c = (omega arith, sum_none _)
+loop-i-init c = sum_none _
 
 pub overflow_add-mask : goal.overflow_add-mask
 overflow_add-mask c =
     let s = c.args in
     let w : ℕ → Bool = λ k. is_working s.holidays.now (s.month.first + k) in
-    record { fits = more_fits w (omega arith) c.loop-i.invariant.1 c.working_bit.ensures }
+    record { fits = more_fits w (omega arith) c.loop-i.invariant c.working_bit.ensures }
 
 pub loop-i-preserved : goal.loop-i-preserved
 loop-i-preserved c =
     let s = c.args in
     let w : ℕ → Bool = λ k. is_working s.holidays.now (s.month.first + k) in
-    (omega arith, mask_more w (omega arith) c.loop-i.invariant.1 c.working_bit.ensures)
+    mask_more w (omega arith) c.loop-i.invariant c.working_bit.ensures
 
 pub returns : goal.returns
 unfolding working_mask
 returns c =
     let s = c.args in
     let e : c.loop-i.i ≡ s.month.days = omega arith in
-    rw (← e) c.loop-i.invariant.1
+    rw (← e) c.loop-i.invariant

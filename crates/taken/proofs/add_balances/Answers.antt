@@ -1,6 +1,5 @@
 -- `taken::add_balances` meets its contract: a column that is filled user by user, and the sum so far. Assumes nothing.
-use mathlib.Core.Path.{◌≡◌, refl, sym, ◌∙◌}
-use Prim.Native.Nat.{ℕ, ◌<◌}
+use mathlib.Core.Path.{refl, sym, ◌∙◌}
 use native.Mathlib.Omega.{arith}
 use borrow.Author.Tests.{leb-true, leb-false, not-true, not-false}
 use lib.IntN.{pos, nat_abs}
@@ -8,11 +7,11 @@ use Rattle.numbers.specs.Sums.{sumZ}
 use Rattle.numbers.specs.Amounts.{Within}
 use Rattle.numbers.proofs.Lists.{passed}
 use Rattle.numbers.proofs.Amounts.{back, widen, next_turn_kept, next_turn_fits}
-use Rattle.numbers.proofs.Filled.{fill_none, fill_next, fill_step, fill_end}
+use Rattle.numbers.proofs.Filled.{fill_none, fill_next, fill_step}
 use Rattle.point_day.specs.Limits.{AMOUNT}
 use Rattle.state.proofs.Lows.{user_balance_within}
 use Rattle.taken.specs.Tested.{added_at}
-use Rattle.taken.proofs.Parts.{Added, added_is, added_back, added_test, balances_back, balances_below, balances_found, found_none}
+use Rattle.taken.proofs.Parts.{Added, added_is, added_back, added_test, found_none}
 use Rattle.taken.proofs.add_balances.Goals as goal
 
 pub loop-s-init : goal.loop-s-init
@@ -73,20 +72,3 @@ loop-s-preserved c =
       fill_step l.invariant.2 (omega arith) (added_back a.wholes.now a.balance.now a.revision.now l.s w z is),
       rw is (next_turn_kept AMOUNT (added_at a.wholes.now a.balance.now a.revision.now) l.s (λ j m. (h j (omega arith) m).1) _ l.invariant.3 (omega arith)),
     )
-
-pub returns-then-sum-lt0 : goal.returns-then-sum-lt0
-returns-then-sum-lt0 c =
-    let a = c.args in
-    let l = c.loop-s in
-    let e : l.s ≡ a.n = omega arith in
-    let q = balances_back a.wholes.now a.balance.now a.revision.now a.n l.invariant.3 e in
-    found_none c.wrong-then-sum-lt0.ensures (balances_below a.wholes.now a.balance.now a.revision.now a.n _ q c.if-sum-lt0.true)
-
-pub returns : goal.returns
-returns c =
-    let a = c.args in
-    let l = c.loop-s in
-    let e : l.s ≡ a.n = omega arith in
-    let h : (s : ℕ) → s < a.n → Added a.wholes.now a.balance.now a.revision.now s = λ s m. l.invariant.1 s (omega arith) (omega arith) in
-    let q = balances_back a.wholes.now a.balance.now a.revision.now a.n l.invariant.3 e in
-    balances_found a.wholes.now a.balance.now a.revision.now a.n h _ q c.if-sum-lt0.false (fill_end l.invariant.2 e)

@@ -13,11 +13,6 @@ returns-then-not-head_right c stage =
     let z = parts_sized stage c.requires.0 c.requires.1 in
     parts_none d z c.wrong.ensures (λ F. c.head_right.ensures.no (not-true _ c.if-not-head_right.true-raw) (head_of d z F))
 
-pub allotted_test-requires : goal.allotted_test-requires
-allotted_test-requires c =
-    let p = c.requires in
-    ((c.head_right.ensures.yes (not-false _ c.if-not-head_right.false-raw)).few, p.1, p.2)
-
 pub returns-then-allotted : goal.returns-then-allotted
 returns-then-allotted c stage =
     let a = c.args in
@@ -26,11 +21,6 @@ returns-then-allotted c stage =
     let h = c.head_right.ensures.yes (not-false _ c.if-not-head_right.false-raw) in
     let e = c.if-allotted.true in
     parts_found d z c.allotted_test.ensures (taken_allotted d z e h) (allotted_of d z e) (λ p s l. refl)
-
-pub entering_test-requires : goal.entering_test-requires
-entering_test-requires c =
-    let p = c.requires in
-    ((c.head_right.ensures.yes (not-false _ c.if-not-head_right.false-raw)).few, p.1, p.2)
 
 pub returns : goal.returns
 returns c stage =

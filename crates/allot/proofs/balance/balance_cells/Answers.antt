@@ -11,10 +11,10 @@ use native.Mathlib.Omega.{arith}
 use Rattle.allot.proofs.balance.balance_cells.Goals as goal
 
 pub slice_bounds-spread_balance-end : goal.slice_bounds-spread_balance-end
-slice_bounds-spread_balance-end c = take_long USERS _ 0 c.column-keys.ensures c.requires.n_nonzero.1
+slice_bounds-spread_balance-end c = take_long USERS _ 0 c.repeat-keys.ensures c.requires.n_nonzero.1
 
 pub slice_bounds-spread_balance-end-2 : goal.slice_bounds-spread_balance-end-2
-slice_bounds-spread_balance-end-2 c = take_long USERS _ 0 c.column-ws.ensures c.requires.n_nonzero.1
+slice_bounds-spread_balance-end-2 c = take_long USERS _ 0 c.repeat-ws.ensures c.requires.n_nonzero.1
 
 pub slice_bounds-spread_balance-end-4 : goal.slice_bounds-spread_balance-end-4
 slice_bounds-spread_balance-end-4 c = sym (length-take-le c.args.n c.args.shares.now c.requires.n_nonzero.3)
@@ -25,9 +25,9 @@ spread_balance-requires c =
     let p = c.requires.within in
     let q = c.requires.n_nonzero in
     let long : length (take a.n a.shares.now) ≡ a.n = length-take-le a.n a.shares.now q.3 in
-    let keys = take_long USERS a.n 0 c.column-keys.ensures q.1 in
-    let ws = take_long USERS a.n 0 c.column-ws.ensures q.1 in record {
-      within = (rw (back p.0 (omega arith)) p.0, p.1, p.2, p.3);
+    let keys = take_long USERS a.n 0 c.repeat-keys.ensures q.1 in
+    let ws = take_long USERS a.n 0 c.repeat-ws.ensures q.1 in record {
+      within = (rw (back p.0 (omega arith)) p.0, p.1, p.2);
       shares_nonzero = (
         omega (arith, q.0),
         omega (arith, q.1),
@@ -40,8 +40,8 @@ spread_balance-requires c =
 pub returns : goal.returns
 returns c =
     let a = c.args in
-    let cs = a.consumption.now in
-    let ls = a.losses.now in
+    let cs = a.offtakes.now.consumption.now in
+    let ls = a.offtakes.now.losses.now in
     let us = a.users.now in
     let long : length (take a.n a.shares.now) ≡ a.n = length-take-le a.n a.shares.now c.requires.n_nonzero.3 in
     let k = back c.requires.within.0 (omega arith) in

@@ -11,6 +11,7 @@ use Rattle.proration.specs.Proration.{prorateZ}
 use Rattle.point_day.specs.Calls.{or_kind_1, kinds, with_share}
 use Rattle.allot.specs.UserWeights.{consumption_and_losses, weight_at}
 use Rattle.allot.specs.Slots.{balances_of}
+use Rattle.allot.specs.Basis.{are_all}
 use Rattle.allot.proofs.balance.Cells.{share_long}
 use Rattle.allot.proofs.balance.Parts.{parts_none, parts_step}
 use native.Mathlib.Omega.{arith}
@@ -20,16 +21,16 @@ pub loop-s-init : goal.loop-s-init
 loop-s-init c =
     let a = c.args in
     let n = length a.shares.now in
-    let r = c.requires.shares_len_bound.2 in
-    (omega arith, parts_none _ n (λ i l. share_long a.consumption.now a.losses.now i r.consumption.long r.losses.long (omega (arith, c.requires.shares_len_bound.0)) a.all (atZ a.shares.now i)) a.cells.now)
+    let r = a.offtakes.now.in_range in
+    parts_none _ n (λ i l. share_long _ _ i r.consumption.long r.losses.long (omega (arith, c.requires.shares_len_bound.0)) (are_all a.kinds) (atZ a.shares.now i)) a.cells.now
 
 pub bounds-ws-s : goal.bounds-ws-s
 bounds-ws-s c =
     let a = c.args in
-    omega (arith, ap length c.requires.ws_value.0, length_table (weight_at a.all a.consumption.now a.losses.now) (length a.shares.now))
+    omega (arith, ap length c.requires.ws_value.0, length_table (weight_at (are_all a.kinds) a.offtakes.now.consumption.now a.offtakes.now.losses.now) (length a.shares.now))
 
 pub slice_bounds-spread-end : goal.slice_bounds-spread-end
-slice_bounds-spread-end c = omega (arith, c.loop-s.invariant.1.long, c.requires.shares_len_bound.1, c.requires.shares_len_bound.0)
+slice_bounds-spread-end c = omega (arith, c.loop-s.invariant.long, c.requires.shares_len_bound.1, c.requires.shares_len_bound.0)
 
 pub spread-requires : goal.spread-requires
 spread-requires c =
@@ -41,32 +42,30 @@ spread-requires c =
     let w = c.kind_weights.ensures in (
       rw (back h (omega arith)) h,
       w.bounded,
-      ap (λ t. at t i) c.requires.ws_value.0 ∙ at_table (weight_at a.all a.consumption.now a.losses.now) (length a.shares.now) i (omega arith) ∙ sym (ap total w.value),
-      length-take-le _ _ (omega (arith, length-drop (5 * i) at-loop.cells, at-loop.invariant.1.long, c.requires.shares_len_bound.1, c.requires.shares_len_bound.0)) ∙ k,
+      ap (λ t. at t i) c.requires.ws_value.0 ∙ at_table (weight_at (are_all a.kinds) a.offtakes.now.consumption.now a.offtakes.now.losses.now) (length a.shares.now) i (omega arith) ∙ sym (ap total w.value),
+      length-take-le _ _ (omega (arith, length-drop (5 * i) at-loop.cells, at-loop.invariant.long, c.requires.shares_len_bound.1, c.requires.shares_len_bound.0)) ∙ k,
     )
 
 pub loop-s-preserved : goal.loop-s-preserved
 loop-s-preserved c =
     let a = c.args in
-    let cs = a.consumption.now in
-    let ls = a.losses.now in
+    let cs = a.offtakes.now.consumption.now in
+    let ls = a.offtakes.now.losses.now in
     let zs = a.shares.now in
     let at-loop = c.loop-s in
     let i = at-loop.s in
     let k : 5 * i + 5 - 5 * i ≡ 5 = omega arith in
-    let r = c.requires.shares_len_bound.2 in
-    let five : (j : ℕ) → j < length zs → length (with_share a.all (consumption_and_losses cs ls j) (atZ zs j)).balance ≡ 5 =
-    λ j l. share_long cs ls j r.consumption.long r.losses.long (omega (arith, c.requires.shares_len_bound.0)) a.all (atZ zs j) in (
-      omega arith,
-      parts_step _ (length zs) five a.cells.now at-loop.invariant.1 (omega arith) (omega (arith, c.requires.shares_len_bound.0, c.requires.shares_len_bound.1)) k
-          (c.spread.ensures ∙ ap₂ (λ z ws. prorateZ z (or_kind_1 ws) kinds) (back (c.requires.ws_value.1 i) (omega arith)) c.kind_weights.ensures.value),
-    )
+    let r = a.offtakes.now.in_range in
+    let five : (j : ℕ) → j < length zs → length (with_share (are_all a.kinds) (consumption_and_losses cs ls j) (atZ zs j)).balance ≡ 5 =
+    λ j l. share_long cs ls j r.consumption.long r.losses.long (omega (arith, c.requires.shares_len_bound.0)) (are_all a.kinds) (atZ zs j) in
+    parts_step _ (length zs) five a.cells.now at-loop.invariant (omega arith) (omega (arith, c.requires.shares_len_bound.0, c.requires.shares_len_bound.1)) k
+    (c.spread.ensures ∙ ap₂ (λ z ws. prorateZ z (or_kind_1 ws) kinds) (back (c.requires.ws_value.1 i) (omega arith)) c.kind_weights.ensures.value)
 
 pub shape_of-cells : goal.shape_of-cells
-shape_of-cells c = c.loop-s.invariant.1.long
+shape_of-cells c = c.loop-s.invariant.long
 
 pub returns : goal.returns
 returns c =
     let a = c.args in
     let e : c.loop-s.s ≡ length a.shares.now = omega arith in
-    c.loop-s.invariant.1.is ∙ ap (λ n. balances_of a.all a.consumption.now a.losses.now a.shares.now n ++ drop (5 * n) a.cells.now) e
+    c.loop-s.invariant.is ∙ ap (λ n. balances_of (are_all a.kinds) a.offtakes.now.consumption.now a.offtakes.now.losses.now a.shares.now n ++ drop (5 * n) a.cells.now) e

@@ -1,13 +1,9 @@
-use Prim.Native.Nat.{◌-◌, ◌≤◌}
-use lib.ListN.{length}
 use Rattle.numbers.specs.Sums.{atZ}
 use Rattle.point_day.specs.Calls.{with_share}
 use Rattle.allot.specs.UserWeights.{consumption_and_losses}
+use Rattle.allot.specs.Basis.{are_all}
 use Rattle.allot.proofs.balance.Parts.{Parts}
 use Rattle.allot.proofs.balance.spread_all.Given as goal
 
 abbrev pub invariant-loop-s : goal.invariant-loop-s
-invariant-loop-s l = (l.s ≤ length l.shares) × Parts (λ k. (with_share l.all (consumption_and_losses l.consumption l.losses k) (atZ l.shares k)).balance) l.initial.cells l.s l.cells
-
-abbrev pub decreases-loop-s : goal.decreases-loop-s
-decreases-loop-s l = length l.shares - l.s
+invariant-loop-s l = Parts (λ k. (with_share (are_all l.kinds) (consumption_and_losses l.offtakes.consumption.now l.offtakes.losses.now k) (atZ l.shares k)).balance) l.initial.cells l.s l.cells

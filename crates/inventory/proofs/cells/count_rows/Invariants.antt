@@ -1,10 +1,7 @@
 use mathlib.Core.Path.{◌≡◌}
-use Prim.Native.Nat.{◌-◌, ◌≤◌}
+use Prim.Native.Nat.{◌≤◌}
 use Rattle.inventory.specs.Cells.{row_count}
 use Rattle.inventory.proofs.cells.count_rows.Given as goal
 
 abbrev pub invariant-loop-i : goal.invariant-loop-i
-invariant-loop-i l = (l.i ≤ l.n) × (l.count ≡ row_count l.consumption l.losses l.balance l.i) × (l.count ≤ l.i)
-
-abbrev pub decreases-loop-i : goal.decreases-loop-i
-decreases-loop-i l = l.n - l.i
+invariant-loop-i l = (l.count ≡ row_count l.consumption l.losses l.balance l.i) × (l.count ≤ l.i)

@@ -3,12 +3,8 @@ use mathlib.Core.Path.{◌≡◌}
 use native.Mathlib.Omega.{arith}
 use Rattle.line.specs.Cell.{line_losses}
 use Rattle.line.proofs.cells.Ranges.{losses_small}
-use native.Mathlib.Nat.{mul-le-mul}
 use Rattle.point_day.specs.Calls.{cell_step}
 use Rattle.line.proofs.cells.line_losses.Goals as goal
-
-pub overflow_mul-consumption : goal.overflow_mul-consumption
-overflow_mul-consumption c = omega (arith, mul-le-mul c.requires.0 c.requires.1)
 
 pub returns : goal.returns
 returns c =

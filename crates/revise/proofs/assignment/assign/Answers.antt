@@ -22,27 +22,27 @@ slice_bounds-add_columns-end-2 c = sym (first_long c.requires)
 pub add_columns-requires : goal.add_columns-requires
 add_columns-requires c =
     let h = c.requires in
-    let k = c.no_amounts-shares.ensures in
+    let k = c.repeat-shares.ensures in
     let q = rw (to_z-of_z c.ranges.amount) at c.share_out.ensures in record { xs_in_bounds = (omega (arith, first_long h, shares_long h k q, h.few), omega (arith, first_long h, h.few)); by_index = (λ i. widen (h.wholes i) (lit≤ tt), λ i. widen (shares_small h k q i) (lit≤ tt)) }
 
 pub returns-then-wholes_too_large : goal.returns-then-wholes_too_large
 returns-then-wholes_too_large c =
     let h = c.requires in
-    let k = c.no_amounts-shares.ensures in
+    let k = c.repeat-shares.ensures in
     let q = rw (to_z-of_z c.ranges.amount) at c.share_out.ensures in
-    let large = sym (large_is h k q c.no_amounts-wholes.ensures c.add_columns.ensures) ∙ sym c.wholes_too_large.ensures ∙ c.if-wholes_too_large.true in
+    let large = sym (large_is h k q c.repeat-wholes.ensures c.add_columns.ensures) ∙ sym c.wholes_too_large.ensures ∙ c.if-wholes_too_large.true in
     record { is = sym (ap not large); revisions = λ e. never e }
 
 pub add_columns-requires-2 : goal.add_columns-requires-2
 add_columns-requires-2 c =
     let h = c.requires in
-    let k = c.no_amounts-shares.ensures in
+    let k = c.repeat-shares.ensures in
     let q = rw (to_z-of_z c.ranges.amount) at c.share_out.ensures in record { xs_in_bounds = (omega (arith, h.revisions_long, shares_long h k q), omega (arith, h.revisions_long, h.column_long)); by_index = (λ i. widen (h.revisions i) (lit≤ tt), λ i. widen (shares_small h k q i) (lit≤ tt)) }
 
 pub returns : goal.returns
 returns c =
     let h = c.requires in
-    let k = c.no_amounts-shares.ensures in
+    let k = c.repeat-shares.ensures in
     let q = rw (to_z-of_z c.ranges.amount) at c.share_out.ensures in
-    let small = sym (large_is h k q c.no_amounts-wholes.ensures c.add_columns.ensures) ∙ sym c.wholes_too_large.ensures ∙ c.if-wholes_too_large.false in
+    let small = sym (large_is h k q c.repeat-wholes.ensures c.add_columns.ensures) ∙ sym c.wholes_too_large.ensures ∙ c.if-wholes_too_large.false in
     record { is = sym (ap not small); revisions = λ e. revisions_are h k q c.args.column.now h.column_long c.add_columns-2.ensures }

@@ -1,4 +1,4 @@
-use Prim.Native.Nat.{◌-◌, ◌≤◌}
+use Prim.Native.Nat.{◌≤◌}
 use lib.IntN.{◌+ℤ◌}
 use lib.ListN.{length}
 use Rattle.numbers.specs.Sums.{atZ}
@@ -7,6 +7,3 @@ use Rattle.revise.proofs.outstanding.add_columns.Given as goal
 
 abbrev pub invariant-loop-i : goal.invariant-loop-i
 invariant-loop-i l = (l.i ≤ length l.xs) × Filled (λ k. atZ l.xs k +ℤ atZ l.ys k) l.initial.sums l.i l.sums
-
-abbrev pub decreases-loop-i : goal.decreases-loop-i
-decreases-loop-i l = length l.xs - l.i

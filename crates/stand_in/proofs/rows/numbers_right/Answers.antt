@@ -3,14 +3,14 @@ use native.Mathlib.Omega.{arith}
 use Rattle.stand_in.proofs.rows.Rising.{risen_none, risen_more, risen_all, risen_stop}
 use Rattle.stand_in.proofs.rows.numbers_right.Goals as goal
 
-pub loop-i-init : goal.loop-i-init
-loop-i-init c = (omega arith, risen_none _)
+pub loop-user-init : goal.loop-user-init
+loop-user-init c = risen_none _
 
 pub returns-then-user-last : goal.returns-then-user-last
-returns-then-user-last c = risen_stop c.args.users.now c.loop-i.invariant.1 (omega arith) (omega arith)
+returns-then-user-last c = risen_stop _ c.loop-user.invariant (omega arith) (omega arith)
 
-pub loop-i-preserved : goal.loop-i-preserved
-loop-i-preserved c = (omega arith, risen_more c.args.users.now c.loop-i.invariant.1 c.if-user-last.false (omega (arith, c.shared_slice_known-1.given c.loop-i.i)))
+pub loop-user-preserved : goal.loop-user-preserved
+loop-user-preserved c = risen_more _ c.loop-user.invariant c.if-user-last.false (omega (arith, c.type_inv.users c.loop-user.user-index))
 
 pub returns : goal.returns
-returns c = risen_all c.args.users.now c.loop-i.invariant.1 (omega arith)
+returns c = risen_all _ c.loop-user.invariant (omega arith)
