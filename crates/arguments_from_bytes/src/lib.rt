@@ -5,23 +5,15 @@ ghost use Rattle.std.specs.Prelude.{◌<◌, ◌≤◌, length};
 ghost use Rattle.point_day.specs.Limits.{ROWS};
 
 use console::input::{Input, Malformed, Number};
+use line::cells::LineEntry;
 use point_day::{Measurement, PAIRS, PointDay, ROWS, Stage, StandInRows, USERS};
 
 // ---- line
 
-// The arguments of a line.
-#[derive(Clone, Copy)]
-pub struct LineArguments {
-    pub user: u16,
-    pub kind: u8,
-    pub consumption: u64,
-    pub coefficient: u64,
-}
-
-pub fn read_line(input: &mut Input) -> Result<LineArguments, Malformed>
+pub fn read_line(input: &mut Input) -> Result<LineEntry, Malformed>
     ensures { length input.new ≤ length input.old }
 {
-    Ok(LineArguments {
+    Ok(LineEntry {
         user: u16::read(input)?,
         kind: u8::read(input)?,
         consumption: u64::read(input)?,

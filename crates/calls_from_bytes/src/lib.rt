@@ -4,28 +4,28 @@
 ghost use Rattle.std.specs.Prelude.{◌≡◌, true, ◌<◌, ◌≤◌, length};
 ghost use Rattle.point_day.specs.Limits.{USERS};
 ghost use Rattle.point_day.specs.Day.{measurement_right};
+ghost use Rattle.point_day.specs.Struct.{taken};
 
 use console::input::{Input, MOST_LENT, Number};
 use console::{Program, Stop, input, output};
 use day_report::REPORT_ROOM;
-use inventory::InventoryAnswer;
-use numbers::OUT_OF_RANGE;
-use point_day::{Answer, KINDS, Measurement, Outcome, PointDay, Stage};
+use point_day::{Accepted, Answer, KINDS, Measurement, Outcome, PointDay, Stage};
 use std::io;
 use std::io::{Read, Write};
 
 // ---- a call's outcome
 
-// Refused, or the call's name and its value.
+// The refusal, or the call's name and its value.
 fn print_answer<W: Write>(out: &mut W, name: &str, answer: Answer) -> io::Result<()> {
     match answer {
-        Answer::Refused(n) => output::refused(out, n),
-        Answer::Done => writeln!(out, "{name}"),
-        Answer::LossesAdded(l) => writeln!(out, "{name} {l}"),
-        Answer::RowsLookedAt(k) => writeln!(out, "{name} {k}"),
-        Answer::WithinTolerance(x) => writeln!(out, "within {x}"),
-        Answer::RevisionAssigned(x) => writeln!(out, "{name} {x}"),
+        Err(refusal) => output::refusal(out, refusal)?,
+        Ok(Accepted::Done) => write!(out, "{name}")?,
+        Ok(Accepted::LossesAdded(kwh)) => write!(out, "{name} {kwh}")?,
+        Ok(Accepted::RowsLookedAt(rows)) => write!(out, "{name} {rows}")?,
+        Ok(Accepted::WithinTolerance(r)) => write!(out, "within {r}")?,
+        Ok(Accepted::RevisionAssigned(r)) => write!(out, "{name} {r}")?,
     }
+    writeln!(out)
 }
 
 // ---- show
@@ -63,11 +63,10 @@ fn print_user<W: Write>(out: &mut W, day: &PointDay, slot: usize) -> io::Result<
     writeln!(out, " {}", day.revision[slot])
 }
 
-fn print_day<W: Write>(out: &mut W, day: &PointDay) -> io::Result<()> {
-    let state = taken::test_day(*day);
-    if !state.taken {
-        return output::refused(out, OUT_OF_RANGE);
-    }
+// A point-day that is taken.
+fn print_taken<W: Write>(out: &mut W, day: &PointDay) -> io::Result<()>
+    requires { taken day.now ≡ true }
+{
     print_stage(out, day.stage)?;
     let entered = if day.allotted { "allotted" } else { "entering" };
     write!(out, " {entered} {}", day.count)?;
@@ -78,13 +77,23 @@ fn print_day<W: Write>(out: &mut W, day: &PointDay) -> io::Result<()> {
     Ok(())
 }
 
+fn print_day<W: Write>(out: &mut W, day: &PointDay) -> io::Result<()> {
+    match taken::test_day(*day) {
+        Ok(_) => print_taken(out, day),
+        Err(refusal) => {
+            output::refusal(out, refusal)?;
+            writeln!(out)
+        }
+    }
+}
+
 // ---- inventory and day file
 
 // The answer, and the lent numbers after it.
 fn print_inventory<W: Write>(out: &mut W, day: PointDay, lent: &mut [i64]) -> io::Result<()> {
     match inventory::inventory(day, lent) {
-        InventoryAnswer::Refused(n) => write!(out, "refused {n}")?,
-        InventoryAnswer::Rows(rows) => write!(out, "inventory {rows}")?,
+        Ok(rows) => write!(out, "inventory {rows}")?,
+        Err(refusal) => output::refusal(out, refusal)?,
     }
     output::amounts(out, lent)?;
     writeln!(out)
@@ -128,16 +137,16 @@ impl Calls {
     fn line<W: Write>(&mut self, out: &mut W, input: &mut Input) -> Result<(), Stop>
         ensures { length input.new ≤ length input.old }
     {
-        let a = arguments_from_bytes::read_line(input)?;
-        let outcome = line::line(self.day, a.user, a.kind, a.consumption, a.coefficient);
+        let entry = arguments_from_bytes::read_line(input)?;
+        let outcome = line::line(self.day, entry);
         self.settle(out, "line", outcome)
     }
 
     fn edit<W: Write>(&mut self, out: &mut W, input: &mut Input) -> Result<(), Stop>
         ensures { length input.new ≤ length input.old }
     {
-        let a = arguments_from_bytes::read_line(input)?;
-        let outcome = line::line_by_edit(self.day, a.user, a.kind, a.consumption, a.coefficient);
+        let entry = arguments_from_bytes::read_line(input)?;
+        let outcome = line::line_by_edit(self.day, entry);
         self.settle(out, "edit", outcome)
     }
 

@@ -1,21 +1,20 @@
 // Calls on supply points, readings and the calendar from bytes: an operation is a byte and its arguments, little-endian; what each call
-// answers is printed.
+// answers is printed. A call's function here answers Malformed where its arguments can't be read, and else what the call answers.
 #![tactic(auto)]
 
 ghost use Rattle.std.specs.Prelude.{◌≤◌, length};
 
-use calendar::{DayType, DayTypeAnswer, NumberAnswer};
+use calendar::DayType;
 use console::input::{Input, MOST_LENT, Malformed, Number};
 use console::{Program, Stop, input, output};
-use degree_days::DegreeDaysAnswer;
-use months::MonthAnswer;
-use spread::SpreadAnswer;
-use std::io;
+use months::MonthFigures;
+use numbers::Refusal;
 use std::io::{Read, Write};
-use supply::{Amount, Flows, Toll};
-use telemetered::{OwnValue, TelemeteredAnswer};
+use std::{fmt, io};
+use supply::{Flows, Toll};
+use type_1::{OtherToll, Toll34};
+use type_2::Year;
 use values_from_bytes::{pass_winter, read_history, read_list, read_optional, read_winter};
-use zones::ProvinceAnswer;
 
 // The most holidays and degree days of a list, and the most lists of winters that are read.
 const MOST_HOLIDAYS: usize = 4000;
@@ -24,31 +23,17 @@ const MOST_DEGREE_DAYS: usize = 255;
 
 const MOST_WINTERS: usize = 8;
 
-// An answer that gives one number, under its name.
-fn print_number<W: Write>(out: &mut W, name: &str, answer: NumberAnswer) -> io::Result<()> {
-    match answer {
-        NumberAnswer::Refused(n) => output::refused(out, n),
-        NumberAnswer::Given(v) => writeln!(out, "{name} {v}"),
+// Two numbers of an answer.
+#[derive(Clone, Copy)]
+struct Two(u64, u64);
+
+impl fmt::Display for Two {
+    fn fmt<W: fmt::Write>(&self, f: &mut fmt::Formatter<W>) -> fmt::Result {
+        write!(f, "{} {}", self.0, self.1)
     }
 }
 
 // ---- telemetered
-
-fn own_value(amount: Amount) -> OwnValue {
-    match amount {
-        Amount::Missing => OwnValue::NotSent,
-        Amount::Known(v) => OwnValue::Sent(v),
-    }
-}
-
-fn print_telemetered<W: Write>(out: &mut W, answer: TelemeteredAnswer) -> io::Result<()> {
-    match answer {
-        TelemeteredAnswer::Refused(n) => output::refused(out, n),
-        TelemeteredAnswer::Consumption { kwh, looked } => {
-            writeln!(out, "telemetered {kwh} {looked}")
-        }
-    }
-}
 
 fn read_toll(input: &mut Input) -> Result<Toll, Malformed>
     ensures { length input.new ≤ length input.old }
@@ -71,14 +56,14 @@ fn read_flows(input: &mut Input) -> Result<Flows, Malformed>
     })
 }
 
-fn telemetered<W: Write>(out: &mut W, input: &mut Input) -> Result<(), Stop>
+fn telemetered(input: &mut Input) -> Result<Result<Two, Refusal>, Malformed>
     ensures { length input.new ≤ length input.old }
 {
     let mut room = numbers::repeat::<_, MOST_HOLIDAYS>(0);
     let day = u32::read(input)?;
     let holidays = read_list::<u16, u32>(input, &mut room)?;
     let reading = read_optional(input)?;
-    let own = own_value(read_optional(input)?);
+    let own = read_optional(input)?;
     let flows = read_flows(input)?;
     let count = u16::read(input)?;
     let history = read_history(input, count)?;
@@ -91,45 +76,44 @@ fn telemetered<W: Write>(out: &mut W, input: &mut Input) -> Result<(), Stop>
         history,
         count.into(),
     );
-    print_telemetered(out, answer)?;
-    Ok(())
+    Ok(answer.map(|estimate| Two(estimate.kwh, estimate.looked as u64)))
 }
 
 // ---- Type 1 and Type 2
 
-fn toll_34<W: Write>(out: &mut W, input: &mut Input) -> Result<(), Stop>
+fn toll_34(input: &mut Input) -> Result<Result<u64, Refusal>, Malformed>
     ensures { length input.new ≤ length input.old }
 {
     let mut room = numbers::repeat::<_, MOST_DEGREE_DAYS>(0);
-    let day = u32::read(input)?;
-    let last_year = read_optional(input)?;
-    let g = u32::read(input)?;
-    let last_days = read_list::<u8, u32>(input, &mut room)?;
-    let last_month = read_optional(input)?;
-    let flow = read_optional(input)?;
-    let answer = type_1::toll_34(day, last_year, g, last_days, last_month, flow);
-    print_number(out, "type1", answer)?;
-    Ok(())
+    let point = Toll34 {
+        day: u32::read(input)?,
+        last_year: read_optional(input)?,
+        g: u32::read(input)?,
+        last_days: read_list::<u8, u32>(input, &mut room)?,
+        last_month: read_optional(input)?,
+        year_flow: read_optional(input)?,
+    };
+    Ok(type_1::toll_34(&point))
 }
 
-fn other_toll<W: Write>(out: &mut W, input: &mut Input) -> Result<(), Stop>
+fn other_toll(input: &mut Input) -> Result<Result<u64, Refusal>, Malformed>
     ensures { length input.new ≤ length input.old }
 {
     let mut room = numbers::repeat::<_, MOST_HOLIDAYS>(0);
-    let day = u32::read(input)?;
-    let holidays = read_list::<u16, u32>(input, &mut room)?;
-    let last_year = read_optional(input)?;
-    let c_c = u32::read(input)?;
-    let last_month = read_optional(input)?;
-    let flow = read_optional(input)?;
-    let f_c = u32::read(input)?;
-    let c_f = u32::read(input)?;
-    let answer = type_1::other_toll(day, holidays, last_year, c_c, last_month, flow, f_c, c_f);
-    print_number(out, "type1", answer)?;
-    Ok(())
+    let point = OtherToll {
+        day: u32::read(input)?,
+        holidays: read_list::<u16, u32>(input, &mut room)?,
+        last_year: read_optional(input)?,
+        c_c: u32::read(input)?,
+        last_month: read_optional(input)?,
+        day_flow: read_optional(input)?,
+        f_c: u32::read(input)?,
+        c_f: u32::read(input)?,
+    };
+    Ok(type_1::other_toll(&point))
 }
 
-fn type_2<W: Write>(out: &mut W, input: &mut Input) -> Result<(), Stop>
+fn type_2(input: &mut Input) -> Result<Result<u64, Refusal>, Malformed>
     ensures { length input.new ≤ length input.old }
 {
     let mut first_room = numbers::repeat::<_, MOST_DEGREE_DAYS>(0);
@@ -144,12 +128,10 @@ fn type_2<W: Write>(out: &mut W, input: &mut Input) -> Result<(), Stop>
     for _ in 2..winters {
         pass_winter(input)?;
     }
-    let answer = type_2::type_2(consumers, profile, g, winters, first, second);
-    print_number(out, "type2", answer)?;
-    Ok(())
+    Ok(type_2::type_2(consumers, profile, g, winters, first, second))
 }
 
-fn profile<W: Write>(out: &mut W, input: &mut Input) -> Result<(), Stop>
+fn profile(input: &mut Input) -> Result<Result<u64, Refusal>, Malformed>
     ensures { length input.new ≤ length input.old }
 {
     let f1 = u64::read(input)?;
@@ -158,49 +140,42 @@ fn profile<W: Write>(out: &mut W, input: &mut Input) -> Result<(), Stop>
     let nc2 = u32::read(input)?;
     let n1 = u32::read(input)?;
     let n2 = u32::read(input)?;
-    print_number(out, "profile", type_2::profile(f1, f2, nc1, nc2, n1, n2))?;
-    Ok(())
+    let one = Year {
+        consumption: f1,
+        consumers: nc1,
+        days: n1,
+    };
+    let two = Year {
+        consumption: f2,
+        consumers: nc2,
+        days: n2,
+    };
+    Ok(type_2::profile(one, two))
 }
 
 // ---- degree days, zones and provinces
 
-fn print_degree_days<W: Write>(out: &mut W, answer: DegreeDaysAnswer) -> io::Result<()> {
-    match answer {
-        DegreeDaysAnswer::Refused(n) => output::refused(out, n),
-        DegreeDaysAnswer::Fortieths(d) => writeln!(out, "degree-days {d}"),
-    }
-}
-
-fn degree_days<W: Write>(out: &mut W, input: &mut Input) -> Result<(), Stop>
+fn degree_days(input: &mut Input) -> Result<Result<u64, Refusal>, Malformed>
     ensures { length input.new ≤ length input.old }
 {
     let tmin = i32::read(input)?;
     let tmax = i32::read(input)?;
-    print_degree_days(out, degree_days::degree_days(tmin, tmax))?;
-    Ok(())
+    Ok(degree_days::degree_days(tmin, tmax))
 }
 
-fn zone<W: Write>(out: &mut W, input: &mut Input) -> Result<(), Stop>
+fn zone(input: &mut Input) -> Result<Result<u64, Refusal>, Malformed>
     ensures { length input.new ≤ length input.old }
 {
     let hundredths = u32::read(input)?;
-    print_number(out, "zone", zones::zone_of(hundredths))?;
-    Ok(())
+    Ok(zones::zone_of(hundredths))
 }
 
-fn print_province<W: Write>(out: &mut W, answer: ProvinceAnswer) -> io::Result<()> {
-    match answer {
-        ProvinceAnswer::Refused(n) => output::refused(out, n),
-        ProvinceAnswer::ValueAndZone { value, zone } => writeln!(out, "province {value} {zone}"),
-    }
-}
-
-fn province<W: Write>(out: &mut W, input: &mut Input) -> Result<(), Stop>
+fn province(input: &mut Input) -> Result<Result<Two, Refusal>, Malformed>
     ensures { length input.new ≤ length input.old }
 {
     let number = u32::read(input)?;
-    print_province(out, zones::province_of(number))?;
-    Ok(())
+    let answer = zones::province_of(number);
+    Ok(answer.map(|province| Two(province.mean.into(), province.zone.into())))
 }
 
 // ---- spreading a reading
@@ -213,8 +188,8 @@ fn print_spread<W: Write>(
     lent: &mut [i64],
 ) -> io::Result<()> {
     match spread::spread(reading, weights, lent) {
-        SpreadAnswer::Refused(n) => write!(out, "refused {n}")?,
-        SpreadAnswer::Done => write!(out, "spread")?,
+        Ok(()) => write!(out, "spread")?,
+        Err(refusal) => output::refusal(out, refusal)?,
     }
     output::amounts(out, lent)?;
     writeln!(out)
@@ -235,45 +210,46 @@ fn spread<W: Write>(out: &mut W, input: &mut Input) -> Result<(), Stop>
 
 // ---- calendar
 
-fn print_day_type<W: Write>(out: &mut W, answer: DayTypeAnswer) -> io::Result<()> {
-    match answer {
-        DayTypeAnswer::Refused(n) => output::refused(out, n),
-        DayTypeAnswer::Is(DayType::Working) => writeln!(out, "day-type working"),
-        DayTypeAnswer::Is(DayType::Saturday) => writeln!(out, "day-type saturday"),
-        DayTypeAnswer::Is(DayType::SundayOrHoliday) => writeln!(out, "day-type sunday"),
+fn name_of(day_type: DayType) -> &'static str {
+    match day_type {
+        DayType::Working => "working",
+        DayType::Saturday => "saturday",
+        DayType::SundayOrHoliday => "sunday",
     }
 }
 
-fn day_type<W: Write>(out: &mut W, input: &mut Input) -> Result<(), Stop>
+fn day_type(input: &mut Input) -> Result<Result<&'static str, Refusal>, Malformed>
     ensures { length input.new ≤ length input.old }
 {
     let mut room = numbers::repeat::<_, MOST_HOLIDAYS>(0);
     let day = u32::read(input)?;
     let holidays = read_list::<u16, u32>(input, &mut room)?;
-    print_day_type(out, calendar::day_type(day, holidays))?;
-    Ok(())
+    Ok(calendar::day_type(day, holidays).map(name_of))
 }
 
-fn print_month<W: Write>(out: &mut W, answer: MonthAnswer) -> io::Result<()> {
-    match answer {
-        MonthAnswer::Refused(n) => output::refused(out, n),
-        MonthAnswer::Figures {
+// A month's numbers.
+#[derive(Clone, Copy)]
+struct Month(MonthFigures);
+
+impl fmt::Display for Month {
+    fn fmt<W: fmt::Write>(&self, f: &mut fmt::Formatter<W>) -> fmt::Result {
+        let MonthFigures {
             first,
             days,
             mask,
             working,
-        } => writeln!(out, "month {first} {days} {mask} {working}"),
+        } = self.0;
+        write!(f, "{first} {days} {mask} {working}")
     }
 }
 
-fn month<W: Write>(out: &mut W, input: &mut Input) -> Result<(), Stop>
+fn month(input: &mut Input) -> Result<Result<Month, Refusal>, Malformed>
     ensures { length input.new ≤ length input.old }
 {
     let mut room = numbers::repeat::<_, MOST_HOLIDAYS>(0);
     let day = u32::read(input)?;
     let holidays = read_list::<u16, u32>(input, &mut room)?;
-    print_month(out, months::month_figures(day, holidays))?;
-    Ok(())
+    Ok(months::month_figures(day, holidays).map(Month))
 }
 
 // ---- the operations
@@ -285,19 +261,20 @@ impl Program for Estimates {
     // (A match on the byte: an enum of the operations would be a second table of them, read here alone.)
     fn step<W: Write>(&mut self, out: &mut W, input: &mut Input) -> Result<(), Stop> {
         match u8::read(input)? {
-            1 => telemetered(out, input),
-            2 => toll_34(out, input),
-            3 => other_toll(out, input),
-            4 => type_2(out, input),
-            5 => profile(out, input),
-            6 => degree_days(out, input),
-            7 => zone(out, input),
-            8 => province(out, input),
-            9 => spread(out, input),
-            10 => day_type(out, input),
-            11 => month(out, input),
-            _ => Err(Stop::Malformed),
+            1 => output::answer(out, "telemetered", telemetered(input)?)?,
+            2 => output::answer(out, "type1", toll_34(input)?)?,
+            3 => output::answer(out, "type1", other_toll(input)?)?,
+            4 => output::answer(out, "type2", type_2(input)?)?,
+            5 => output::answer(out, "profile", profile(input)?)?,
+            6 => output::answer(out, "degree-days", degree_days(input)?)?,
+            7 => output::answer(out, "zone", zone(input)?)?,
+            8 => output::answer(out, "province", province(input)?)?,
+            9 => spread(out, input)?,
+            10 => output::answer(out, "day-type", day_type(input)?)?,
+            11 => output::answer(out, "month", month(input)?)?,
+            _ => return Err(Stop::Malformed),
         }
+        Ok(())
     }
 }
 

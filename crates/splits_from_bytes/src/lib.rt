@@ -44,7 +44,7 @@ fn run_split<W: Write>(
 {
     read_numbers(input, weights)?;
     read_numbers(input, keys)?;
-    if split::split(amount, weights, keys, shares) != 0 {
+    if split::split(amount, weights, keys, shares).is_err() {
         return Err(Stop::Malformed);
     }
     print_line(out, shares)?;

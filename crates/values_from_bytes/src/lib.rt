@@ -5,7 +5,6 @@ ghost use Rattle.std.specs.Prelude.{◌≤◌, length};
 
 use console::input::{Input, Malformed, Number};
 use history::{ENTRIES, Entry, Reading};
-use supply::Amount;
 
 // The bytes of an entry: its tag and its value.
 const ENTRY_BYTES: usize = 9;
@@ -14,13 +13,13 @@ const ENTRY_BYTES: usize = 9;
 const DEGREE_DAY_BYTES: usize = 4;
 
 // The next optional value.
-pub fn read_optional(input: &mut Input) -> Result<Amount, Malformed>
+pub fn read_optional(input: &mut Input) -> Result<Option<u64>, Malformed>
     ensures { length input.new ≤ length input.old }
 {
     if input.flag()? {
-        Ok(Amount::Known(u64::read(input)?))
+        Ok(Some(u64::read(input)?))
     } else {
-        Ok(Amount::Missing)
+        Ok(None)
     }
 }
 
