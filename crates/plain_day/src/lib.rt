@@ -11,8 +11,9 @@ ghost use Rattle.plain_day.specs.Layout.{LENGTH, STAGE_AT, ALLOTTED_AT, MEASURED
 ghost use Rattle.taken.specs.Tested.{StateOf};
 ghost use Rattle.plain_day.specs.Tested.{TestedNumbers};
 
+use numbers::Refusal;
 use point_day::{CELLS, LIMIT, USERS};
-use taken::StateTest;
+use taken::State;
 
 // A point-day in plain numbers, which the caller lends: the stage (0 provisional, 1 final provisional, 2 final definitive), whether it is
 // allotted and measured (0, 1), emission and downstream emission, the count of users, and the arrays.
@@ -85,7 +86,7 @@ pub fn is_readable(xs: &[i64]) -> bool
 }
 
 // The test of the point-day that is read from plain numbers, with these user numbers.
-fn test_read(day: &[i64], users: [u16; USERS]) -> StateTest
+fn test_read(day: &[i64], users: [u16; USERS]) -> Result<State, Refusal>
     requires { (length day.now ≡ LENGTH) × (users ≡ users_in day.now) }
     ensures { StateOf (day_in day.now) result }
 {
@@ -102,14 +103,14 @@ fn test_read(day: &[i64], users: [u16; USERS]) -> StateTest
     )
 }
 
-// The test of a point-day in plain numbers: whether one is read from them and is taken.
-pub fn test_numbers(day: &[i64]) -> StateTest
+// The test of a point-day in plain numbers: refused if none is read from them that is taken.
+pub fn test_numbers(day: &[i64]) -> Result<State, Refusal>
     ensures { TestedNumbers day.now result }
 {
     if !is_readable(day) {
-        return taken::untaken();
+        return Err(Refusal::OutOfRange);
     }
-    let mut users = point_day::no_users();
+    let mut users = numbers::repeat::<u16, USERS>(0);
     from_numbers::copy_users(&day[USERS_AT..CONSUMPTION_AT], &mut users);
     test_read(day, users)
 }

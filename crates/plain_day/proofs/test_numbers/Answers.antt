@@ -1,5 +1,5 @@
 -- `plain_day::test_numbers` meets its contract. Assumes nothing.
-use mathlib.Core.Path.{◌≡◌, sym, ◌∙◌}
+use mathlib.Core.Path.{◌≡◌, refl, sym, ◌∙◌}
 use mathlib.Core.Bool.{true}
 use native.Mathlib.Omega.{arith}
 use borrow.Author.Rules.{rules}
@@ -11,7 +11,7 @@ use Rattle.plain_day.proofs.Outcomes.{none_read, one_read}
 use Rattle.plain_day.proofs.test_numbers.Goals as goal
 
 pub returns-then-not-is_readable : goal.returns-then-not-is_readable
-returns-then-not-is_readable c = none_read c.args.day.now c.untaken.ensures (sym c.if-not-is_readable.ensures)
+returns-then-not-is_readable c = (none_read c.args.day.now (sym c.if-not-is_readable.ensures), refl)
 
 pub slice_bounds-copy_users-end : goal.slice_bounds-copy_users-end
 slice_bounds-copy_users-end c = omega (arith, laid_length c.args.day.now (sym c.if-not-is_readable.ensures))
@@ -20,7 +20,7 @@ pub copy_users-requires : goal.copy_users-requires
 copy_users-requires c =
     let xs = c.args.day.now in
     let e : is_readable xs ≡ true = sym c.if-not-is_readable.ensures in
-    let long : length c.no_users-users.result ≡ USERS = search rules in
+    let long : length c.repeat-users.result ≡ USERS = search rules in
     (long ∙ sym (part_length xs e USERS_AT USERS (omega arith)), laid_users xs e)
 
 pub test_read-requires : goal.test_read-requires
@@ -30,4 +30,4 @@ test_read-requires c =
     (laid_length xs e, c.copy_users.ensures)
 
 pub returns : goal.returns
-returns c = one_read c.args.day.now (sym c.if-not-is_readable.ensures) c.test_read.ensures
+returns c = one_read c.args.day.now _ (sym c.if-not-is_readable.ensures) c.test_read.ensures
