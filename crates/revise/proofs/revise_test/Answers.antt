@@ -1,7 +1,6 @@
 -- `revise::revise_test` meets its contract, outcome by outcome, on any point-day of which this is the test. Assumes nothing.
 use mathlib.Core.List.{zip_with}
 use mathlib.Core.Path.{◌≡◌, sym, ap, ap₂, ◌∙◌}
-use mathlib.Core.Bool.{true, false}
 use native.Mathlib.Omega.{arith}
 use lib.Dec.{lit<}
 use lib.IntN.{pos, ◌+ℤ◌}
@@ -9,7 +8,6 @@ use lib.ListN.{length}
 use mir.Syntax.{w64}
 use mir.Val.{to_z, of_z}
 use borrow.Author.Rules.{rules}
-use Rattle.numbers.specs.Lists.{both}
 use Rattle.numbers.proofs.Lists.{both_snd}
 use Rattle.numbers.proofs.Amounts.{back}
 use Rattle.numbers.proofs.Refusals.{refusal_passed}
@@ -26,8 +24,7 @@ use Rattle.revise.proofs.revise_test.Goals as goal
 
 pub returns-then-not-is_revisable : goal.returns-then-not-is_revisable
 returns-then-not-is_revisable c d k z =
-    let o : both (provisional c.args.state.now.stage) c.args.state.now.allotted ≡ false = search rules in
-    revise_1 d k.sized k.is_taken c.args.tolerance (open_is k ∙ o)
+    revise_1 d k.sized k.is_taken c.args.tolerance (open_is k ∙ sym c.if-not-is_revisable.ensures)
 
 pub outstanding-amount-requires : goal.outstanding-amount-requires
 outstanding-amount-requires c =
@@ -36,11 +33,10 @@ outstanding-amount-requires c =
 
 pub returns-then-size_at_most : goal.returns-then-size_at_most
 returns-then-size_at_most c d k z =
-    let o : both (provisional c.args.state.now.stage) c.args.state.now.allotted ≡ true = search rules in
     let q = c.outstanding-amount in
     let R : to_z w64 (of_z w64 q.result) ≡ outstanding d = back q.ensures.1 (lit< tt) ∙ q.ensures.0 ∙ outstanding_is k in
     let m = sym (ap (no_more c.args.tolerance) R) ∙ sym c.size_at_most.ensures in
-    ap (λ y. outcome (within_tolerance y) d) R ∙ revise_within d k.sized k.is_taken c.args.tolerance (open_is k ∙ o) (m ∙ c.if-size_at_most.true)
+    ap (λ y. outcome (within_tolerance y) d) R ∙ revise_within d k.sized k.is_taken c.args.tolerance (open_is k ∙ sym c.if-not-is_revisable.ensures) (m ∙ c.if-size_at_most.true)
 
 pub slice_bounds-any_negative-end : goal.slice_bounds-any_negative-end
 slice_bounds-any_negative-end c = wholes_reach c.requires.0.holds.known c.requires.1
@@ -50,12 +46,11 @@ slice_bounds-any_negative-end-2 c = sym (wholes_long c.requires.0.holds.known c.
 
 pub returns-then-any_negative : goal.returns-then-any_negative
 returns-then-any_negative c d k z =
-    let o : both (provisional c.args.state.now.stage) c.args.state.now.allotted ≡ true = search rules in
     let q = c.outstanding-amount in
     let R : to_z w64 (of_z w64 q.result) ≡ outstanding d = back q.ensures.1 (lit< tt) ∙ q.ensures.0 ∙ outstanding_is k in
     let m = sym (ap (no_more c.args.tolerance) R) ∙ sym c.size_at_most.ensures in
     let n = sym (ap negative (wholes_are k c.requires.1)) ∙ sym c.any_negative.ensures in
-    revise_11 d k.sized k.is_taken c.args.tolerance (open_is k ∙ o) (m ∙ c.if-size_at_most.false) (n ∙ c.if-any_negative.true)
+    revise_11 d k.sized k.is_taken c.args.tolerance (open_is k ∙ sym c.if-not-is_revisable.ensures) (m ∙ c.if-size_at_most.false) (n ∙ c.if-any_negative.true)
 
 pub size-weight_sum-requires : goal.size-weight_sum-requires
 size-weight_sum-requires c = held_safe c.requires.0.holds.known
@@ -69,7 +64,6 @@ slice_bounds-users-end c = sym (users_long c.requires.0.holds.known)
 pub assign-requires : goal.assign-requires
 assign-requires c =
     let k = c.requires.0.holds.known in
-    let o : both (provisional c.args.state.now.stage) c.args.state.now.allotted ≡ true = search rules in
     let n = sym (ap negative (wholes_are k c.requires.1)) ∙ sym c.any_negative.ensures ∙ c.if-any_negative.false in
     let r = c.outstanding-amount.ensures.1 in
     let u = users_long k in
@@ -77,7 +71,7 @@ assign-requires c =
     record {
       amount = rw (back r (lit< tt)) r;
       sum = c.size-weight_sum.ensures ∙ weights_sum k c.requires.1 n;
-      some = omega (arith, u, filled k (both_snd (provisional c.args.state.now.stage) _ o));
+      some = omega (arith, u, filled k (both_snd (provisional c.args.state.now.stage) _ (sym c.if-not-is_revisable.ensures)));
       few = omega (arith, u, known_few k);
       apart = apart k;
       revisions_long = rw (← c.requires.0.holds.revision) k.sized.revision;
@@ -88,7 +82,6 @@ assign-requires c =
 
 pub returns-in_err-assign : goal.returns-in_err-assign
 returns-in_err-assign c d k z =
-    let o : both (provisional c.args.state.now.stage) c.args.state.now.allotted ≡ true = search rules in
     let q = c.outstanding-amount in
     let R : to_z w64 (of_z w64 q.result) ≡ outstanding d = back q.ensures.1 (lit< tt) ∙ q.ensures.0 ∙ outstanding_is k in
     let m = sym (ap (no_more c.args.tolerance) R) ∙ sym c.size_at_most.ensures in
@@ -96,11 +89,10 @@ returns-in_err-assign c d k z =
     let A = c.in_err-assign.ensures in
     let W = sym (ap₂ (λ x y. any_large (zip_with ◌+ℤ◌ x y)) (numbered_are k c.requires.1) (shares_are k c.requires.1 R)) in
     rw (refusal_passed _ _ c.from_residual.ensures.1, A.1)
-    (revise_12 d k.sized k.is_taken c.args.tolerance (open_is k ∙ o) (m ∙ c.if-size_at_most.false) (n ∙ c.if-any_negative.false) (W ∙ A.0))
+    (revise_12 d k.sized k.is_taken c.args.tolerance (open_is k ∙ sym c.if-not-is_revisable.ensures) (m ∙ c.if-size_at_most.false) (n ∙ c.if-any_negative.false) (W ∙ A.0))
 
 pub returns : goal.returns
 returns c d k z =
-    let o : both (provisional c.args.state.now.stage) c.args.state.now.allotted ≡ true = search rules in
     let q = c.outstanding-amount in
     let R : to_z w64 (of_z w64 q.result) ≡ outstanding d = back q.ensures.1 (lit< tt) ∙ q.ensures.0 ∙ outstanding_is k in
     let m = sym (ap (no_more c.args.tolerance) R) ∙ sym c.size_at_most.ensures in
@@ -110,6 +102,6 @@ returns c d k z =
     let W = sym (ap₂ (λ x y. any_large (zip_with ◌+ℤ◌ x y)) (numbered_are k c.requires.1) g) in
     let v = A.1 ∙ ap₂ (λ x y. zip_with ◌+ℤ◌ x (padded USERS (pos 0) y)) (sym z) g in
     record {
-      is = revise_done d k.sized k.is_taken c.args.tolerance (open_is k ∙ o) (m ∙ c.if-size_at_most.false) (n ∙ c.if-any_negative.false) (W ∙ A.0) R v;
+      is = revise_done d k.sized k.is_taken c.args.tolerance (open_is k ∙ sym c.if-not-is_revisable.ensures) (m ∙ c.if-size_at_most.false) (n ∙ c.if-any_negative.false) (W ∙ A.0) R v;
       taken = k.is_taken;
     }

@@ -15,8 +15,8 @@ row_users-requires c = c.in-Ok.ensures.row
 pub opened-next-requires : goal.opened-next-requires
 opened-next-requires c = c.row_users.ensures.1
 
-pub overflow_add-result : goal.overflow_add-result
-overflow_add-result c = omega (arith, c.in-Ok.ensures.row.found)
+pub overflow_add-row : goal.overflow_add-row
+overflow_add-row c = omega (arith, c.in-Ok.ensures.row.found)
 
 pub returns-in-Ok : goal.returns-in-Ok
 returns-in-Ok c =

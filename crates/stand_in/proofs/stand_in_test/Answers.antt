@@ -1,65 +1,72 @@
 -- `stand_in::stand_in_test` meets its contract, outcome by outcome, on any point-day of which this is the test. Assumes nothing.
-use mathlib.Core.Path.{◌≡◌, sym, ◌∙◌}
-use mathlib.Core.Bool.{true, false, not}
+use mathlib.Core.Path.{refl, sym, ◌∙◌}
 use native.Mathlib.Omega.{arith}
-use lib.Dec.{eqb}
-use borrow.Author.Rules.{rules}
 use borrow.Author.Tests.{le-leb, lt-leb}
-use Rattle.numbers.specs.Lists.{both, every}
-use Rattle.numbers.specs.Refusals.{number_of}
-use Rattle.numbers.proofs.Refusals.{refusal_passed, status_passed, refused_not_0}
-use Rattle.point_day.specs.Day.{provisional, is_measured}
-use Rattle.point_day.specs.Calls.{row_right}
-use Rattle.point_day.specs.Struct.{rows_of}
-use Rattle.stand_in.specs.Rows.{rows_in}
+use Rattle.numbers.proofs.Refusals.{refusal_passed, refused_not_0}
 use Rattle.stand_in.proofs.opening.Standing.{stand_in_1, stand_in_2, stand_in_7, stand_in_9}
 use Rattle.stand_in.proofs.Lists.{open_is, measured_is, net_is, lengths, no_row, usable, row_refused, row_stands}
 use Rattle.stand_in.proofs.stand_in_test.Goals as goal
 
 pub returns-then-not-is_open : goal.returns-then-not-is_open
-returns-then-not-is_open c d k =
-    let s = c.args.state.now in
-    let o : both (provisional s.stage) (both (not s.allotted) (eqb s.count 0)) ≡ false = search rules in
-    stand_in_1 d k.sized k.is_taken _ _ (open_is k ∙ o)
+returns-then-not-is_open c d k = stand_in_1 d k.sized k.is_taken _ _ (open_is k ∙ sym c.if-not-is_open.ensures)
 
 pub returns-then-not-rows_right : goal.returns-then-not-rows_right
 returns-then-not-rows_right c d k =
-    let a = c.args in
-    let s = a.state.now in
-    let o : both (provisional s.stage) (both (not s.allotted) (eqb s.count 0)) ≡ true = search rules in
-    let r : every row_right (rows_of (rows_in a.counts.now a.joining.now a.amounts.now)) ≡ false = search rules in
-    stand_in_2 d k.sized k.is_taken _ _ (open_is k ∙ o) r
+    stand_in_2 d k.sized k.is_taken _ _ (open_is k ∙ sym c.if-not-is_open.ensures) (sym c.if-not-rows_right.ensures)
 
 pub returns-then-not-is_measured : goal.returns-then-not-is_measured
 returns-then-not-is_measured c d k =
-    let a = c.args in
-    let s = a.state.now in
-    let o : both (provisional s.stage) (both (not s.allotted) (eqb s.count 0)) ≡ true = search rules in
-    let r : every row_right (rows_of (rows_in a.counts.now a.joining.now a.amounts.now)) ≡ true = search rules in
-    let m : is_measured s.measurement ≡ false = search rules in
-    stand_in_7 d k.sized k.is_taken _ _ (open_is k ∙ o) r (measured_is k ∙ m)
+    stand_in_7 d k.sized k.is_taken _ _ (open_is k ∙ sym c.if-not-is_open.ensures) (sym c.if-not-rows_right.ensures) (measured_is k ∙ sym c.if-not-is_measured.ensures)
 
 pub returns-then-net-tolerance : goal.returns-then-net-tolerance
 returns-then-net-tolerance c d k =
     let a = c.args in
-    let s = a.state.now in
-    let o : both (provisional s.stage) (both (not s.allotted) (eqb s.count 0)) ≡ true = search rules in
-    let r : every row_right (rows_of (rows_in a.counts.now a.joining.now a.amounts.now)) ≡ true = search rules in
-    let m : is_measured s.measurement ≡ true = search rules in
+    let o = open_is k ∙ sym c.if-not-is_open.ensures in
+    let m = measured_is k ∙ sym c.if-not-is_measured.ensures in
     let n = c.net-net in
-    stand_in_9 d k.sized k.is_taken _ a.tolerance (open_is k ∙ o) r (measured_is k ∙ m) n.result (n.ensures.0 ∙ net_is k) (le-leb n.result a.tolerance (omega (arith, c.if-net-tolerance.true)))
+    stand_in_9 d k.sized k.is_taken _ a.tolerance o (sym c.if-not-rows_right.ensures) m n.result (n.ensures.0 ∙ net_is k) (le-leb n.result a.tolerance (omega (arith, c.if-net-tolerance.true)))
 
 pub nearest_filled-requires : goal.nearest_filled-requires
-nearest_filled-requires c = ?
+nearest_filled-requires c = (lengths _ _ _ (sym c.if-not-rows_right.ensures)).0
 
-pub returns-in_else : goal.returns-in_else
-returns-in_else c = ?
+pub returns-in_default : goal.returns-in_default
+returns-in_default c d k =
+    let a = c.args in
+    let o = open_is k ∙ sym c.if-not-is_open.ensures in
+    let m = measured_is k ∙ sym c.if-not-is_measured.ensures in
+    let n = c.net-net in
+    let b = lt-leb n.result a.tolerance c.if-net-tolerance.false in
+    no_row a.counts.now a.joining.now a.amounts.now (sym c.if-not-rows_right.ensures) a.tolerance d k.sized k.is_taken o m n.result (n.ensures.0 ∙ net_is k) b _ c.in_default.ensures refl
 
 pub row_test-requires : goal.row_test-requires
-row_test-requires c = ?
+row_test-requires c =
+    let a = c.args in
+    let r = sym c.if-not-rows_right.ensures in
+    let l = lengths a.counts.now a.joining.now a.amounts.now r in
+    let p = c.in-Some.ensures in
+    record { counts_len = (l.0, l.1, l.2, c.requires.1); usable = usable a.counts.now a.joining.now a.amounts.now r c.net-net.result c.in-Some.row c.net-net.ensures.1 p.0 p.1 }
 
 pub returns-in_err-row_test : goal.returns-in_err-row_test
-returns-in_err-row_test c = ?
+returns-in_err-row_test c d k =
+    let a = c.args in
+    let r = sym c.if-not-rows_right.ensures in
+    let o = open_is k ∙ sym c.if-not-is_open.ensures in
+    let m = measured_is k ∙ sym c.if-not-is_measured.ensures in
+    let n = c.net-net in
+    let b = lt-leb n.result a.tolerance c.if-net-tolerance.false in
+    let p = c.in-Some.ensures in
+    let u = usable a.counts.now a.joining.now a.amounts.now r n.result c.in-Some.row n.ensures.1 p.0 p.1 in
+    rw (refusal_passed _ _ c.from_residual.ensures.1)
+    (row_refused a.counts.now a.joining.now a.amounts.now r a.tolerance d k.sized k.is_taken o m n.result (n.ensures.0 ∙ net_is k) b c.in-Some.row u _ _ c.in_err-row_test.ensures (refused_not_0 _))
 
 pub returns : goal.returns
-returns c = ?
+returns c d k =
+    let a = c.args in
+    let r = sym c.if-not-rows_right.ensures in
+    let o = open_is k ∙ sym c.if-not-is_open.ensures in
+    let m = measured_is k ∙ sym c.if-not-is_measured.ensures in
+    let n = c.net-net in
+    let b = lt-leb n.result a.tolerance c.if-net-tolerance.false in
+    let p = c.in-Some.ensures in
+    let u = usable a.counts.now a.joining.now a.amounts.now r n.result c.in-Some.row n.ensures.1 p.0 p.1 in
+    row_stands a.counts.now a.joining.now a.amounts.now r a.tolerance d k.sized k.is_taken o m n.result (n.ensures.0 ∙ net_is k) b c.in-Some.row u _ _ c.in_ok-row_test.ensures refl

@@ -38,8 +38,7 @@ pub returns : goal.returns
 returns c =
     let h = c.requires in
     let k = c.repeat-shares.ensures in
-    let q = rw (to_z-of_z c.ranges.amount) at c.share_out.ensures in
-    (
+    let q = rw (to_z-of_z c.ranges.amount) at c.share_out.ensures in (
       sym (large_is h k q c.repeat-wholes.ensures c.add_columns.ensures) ∙ sym c.wholes_too_large.ensures ∙ c.if-wholes_too_large.false,
       revisions_are h k q c.args.column.now h.column_long c.add_columns-2.ensures,
     )
