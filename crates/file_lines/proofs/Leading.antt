@@ -7,6 +7,10 @@ use native.Mathlib.Omega.{arith}
 use native.Mathlib.Numerals.{add-one}
 use lib.IntN.{ℤ}
 use lib.ListN.{get_or}
+use Rattle.std.specs.Prelude.{Result, Ok, Err}
+use Rattle.numbers.specs.declared.Refusal.{Refusal}
+use Rattle.numbers.specs.declared.Refusal.TheVariants.{OutOfRange, AboveLimit}
+use Rattle.numbers.specs.Refusals.{number_of}
 use Rattle.numbers.specs.Sums.{pick, table}
 use Rattle.numbers.specs.Lists.{both, flat}
 use Rattle.point_day.specs.Day.{measurement_right}
@@ -19,10 +23,8 @@ use Rattle.state.specs.Places.{more}
 use Rattle.day_book.specs.Run.{Call, line}
 use Rattle.day_file.specs.Report.{refused, in_order}
 use Rattle.file_lines.specs.Entering.{entering, Entered, UnlessRefused, ComesTo}
-use Rattle.file_lines.specs.declared.lines.SoFar.{SoFar}
-use Rattle.file_lines.specs.declared.lines.SoFar.TheVariants.{Refused, Offtake}
+use Rattle.file_lines.specs.Pieces.{line_so_far, is_added}
 use Rattle.file_lines.proofs.Steps.{line_out, line_past, line_added, line_entered}
-use Rattle.file_lines.proofs.lines.LineSteps.{Line}
 
 -- the calls lead from one point-day to another; the calls stop with a refusal
 abbrev pub Leads : List Call → (Measurement → PointDay) → (Measurement → PointDay) → Type 0
@@ -42,8 +44,8 @@ pub stops_there : {n : ℕ} (p : Measurement → PointDay) (ds bs : List Call) �
 stops_there p ds bs h g m rest r = rw (append_assoc ds bs rest) (h g m (bs ++ rest) r)
 
 -- an answer that is a refusal
-pub stopped : {r : SoFar} {n : ℕ} → r ≡ Refused n → (P : ℕ → Type 0) (cs : List Call) (p q : Measurement → PointDay) → Stops n cs p → UnlessRefused r P × ComesTo r cs p q
-stopped e P cs p q h = subst⁻¹ (λ r. UnlessRefused r P × ComesTo r cs p q) e (tt, h)
+pub stopped : {r : Result ℕ Refusal} {e : Refusal} → r ≡ Err e → (cs : List Call) (p q : Measurement → PointDay) → Stops (number_of e) cs p → ComesTo r cs p q
+stopped e cs p q h = subst⁻¹ (λ r. ComesTo r cs p q) e h
 
 -- ---- calls in a table
 
@@ -75,19 +77,25 @@ flat_rest f n t l = ap flat (table_rest f n t l) ∙ flat_append (table f n) (ta
 
 -- ---- a line
 
+-- a line at a slot: the answer, and the two arrays afterwards
+pub record Line (u slot kind c k x : ℕ) (cs ls : List ℤ) (r : Result ℕ Refusal) (cs' ls' : List ℤ) : Type 0 where
+  pub answer : r ≡ line_so_far u kind c k x
+  pub consumption : cs' ≡ pick (is_added u kind c k x) (more (place slot kind) c cs) cs
+  pub losses : ls' ≡ pick (is_added u kind c k x) (more (place slot kind) (line_losses c k) ls) ls
+
 module _ (i : ℕ) {us : List ℕ} {cs ls : List ℤ} {x : ℕ} (s : Entered (i + 1) us cs ls x) (u kind c k : ℕ) (here : get_or us i 0 ≡ u) where
   -- what its entry comes to
-  abbrev LineComes : SoFar → List ℤ → List ℤ → Type 0
+  abbrev LineComes : Result ℕ Refusal → List ℤ → List ℤ → Type 0
   LineComes r cs' ls' = UnlessRefused r (Entered (i + 1) us cs' ls') × ComesTo r (line u kind c k ∷ []) (entering (i + 1) us cs ls) (entering (i + 1) us cs' ls')
 
   by_tests : (b d : Bool) → line_right u kind c k ≡ b → past_limit x c k ≡ d
-      → LineComes (pick b (pick d (Refused 6) (Offtake (x + (c + line_losses c k)))) (Refused 2))
+      → LineComes (pick b (pick d (Err AboveLimit) (Ok (x + (c + line_losses c k)))) (Err OutOfRange))
       (pick (both b (not d)) (more (place i kind) c cs) cs) (pick (both b (not d)) (more (place i kind) (line_losses c k) ls) ls)
   by_tests false d e f = (tt, line_out i s u kind c k here e)
   by_tests true true e f = (tt, line_past i s u kind c k here e f)
   by_tests true false e f = (line_entered i s u kind c k here e f, line_added i s u kind c k here e f)
 
-  pub line_comes : {r : SoFar} {cs' ls' : List ℤ} → Line u i kind c k x cs ls r cs' ls'
+  pub line_comes : {r : Result ℕ Refusal} {cs' ls' : List ℤ} → Line u i kind c k x cs ls r cs' ls'
       → UnlessRefused r (Entered (i + 1) us cs' ls') × ComesTo r (line u kind c k ∷ []) (entering (i + 1) us cs ls) (entering (i + 1) us cs' ls')
   line_comes h =
       subst₃ LineComes (sym h.answer) (sym h.consumption) (sym h.losses) (by_tests (line_right u kind c k) (past_limit x c k) refl refl)

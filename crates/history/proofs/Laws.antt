@@ -1,5 +1,5 @@
 -- Laws of the history: gaps, estimates and own values put anywhere between change neither the mean nor newness, and never enter a mean. Assumes nothing.
-use mathlib.Core.Path.{◌≡◌, refl, sym, ap}
+use mathlib.Core.Path.{◌≡◌, refl, ap}
 use mathlib.Core.Bool.{true}
 use mathlib.Core.List.{List, [], ◌∷◌, ◌++◌}
 use mathlib.Core.Logic.{⊎_elim}
@@ -10,7 +10,7 @@ use Rattle.numbers.proofs.Sums.{cases}
 use Rattle.numbers.proofs.Lists.{All, all_map}
 use Rattle.calendar.specs.DayTypes.{day_type, same_type}
 use Rattle.history.specs.History.{MATCHES, Dated, RealReading, real_of, real_readings, matching, last_three, mean_value, is_empty, is_new, real_value}
-use Rattle.std.specs.Prelude.{None, Some}
+use Rattle.std.specs.Prelude.{None}
 use Rattle.history.specs.declared.Reading.{Reading}
 use Rattle.history.specs.declared.Reading.TheVariants.{Nothing, Real, Estimated, Own}
 

@@ -2,7 +2,6 @@
 use mathlib.Core.Path.{◌≡◌, refl, sym, ap, ◌∙◌}
 use mathlib.Core.Bool.{Bool, true, false, not}
 use mathlib.Core.List.{List, [], ◌∷◌, ◌++◌}
-use mathlib.Core.Logic.{⊎_elim}
 use Prim.Native.Nat.{ℕ, suc, ◌+◌, ◌-◌, ◌*◌, ◌≤◌, ◌<◌}
 use native.Mathlib.Omega.{arith}
 use native.Mathlib.Numerals.{add-one, lt_of_le_of_ne}
@@ -12,7 +11,6 @@ use lib.Seq.{drop-cons, take-nil}
 use borrow.Author.Tests.{eq-eqb, ne_eqb, eqb-true, leb-true}
 use Rattle.numbers.specs.Sums.{pick, total}
 use Rattle.numbers.specs.Lists.{either}
-use Rattle.numbers.proofs.Sums.{cases, lt_or_ge}
 use Rattle.std.specs.Prelude.{None}
 use Rattle.calendar.specs.DayTypes.{day_type, same_type}
 use Rattle.calendar.specs.declared.DayType.{DayType}
@@ -20,7 +18,7 @@ use Rattle.supply.specs.Amounts.{LIMIT}
 use Rattle.history.specs.History.{MATCHES, Dated, RealReading, reading_right, dated, real_of, real_readings, matching, last_three, sum_of, looked_at, is_empty, is_new, real_value}
 use Rattle.history.specs.Search.{found_in}
 use Rattle.history.specs.declared.Reading.{Reading}
-use Rattle.history.specs.declared.Reading.TheVariants.{Nothing, Real, Estimated, Own}
+use Rattle.history.specs.declared.Reading.TheVariants.{Nothing, Real}
 use Rattle.history.specs.declared.Entry.{Entry}
 use Rattle.history.specs.declared.Found.{Found}
 use Rattle.history.proofs.Laws.{none_real}

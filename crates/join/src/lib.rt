@@ -24,7 +24,7 @@ fn append(day: PointDay, user: u16) -> PointDay
     users[n] = user;
     PointDay {
         count: n + 1,
-        users: users,
+        users,
         ..day
     }
 }

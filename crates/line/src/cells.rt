@@ -20,22 +20,15 @@ pub struct LineEntry {
 
 impl LineEntry {
     // Whether the arguments are in their ranges.
+    #[tactic(auto, unfolding(point_day::specs::Calls::line_right))]
     pub fn is_right(self) -> bool
         ensures { result ≡ line_right self.user self.kind self.consumption self.coefficient }
     {
-        if self.user == 0 {
-            return false;
-        }
-        if self.kind < 1 {
-            return false;
-        }
-        if KINDS < self.kind as usize {
-            return false;
-        }
-        if LIMIT < self.consumption {
-            return false;
-        }
-        self.coefficient <= COEFFICIENT
+        self.user != 0
+            && 1 <= self.kind
+            && self.kind as usize <= KINDS
+            && self.consumption <= LIMIT
+            && self.coefficient <= COEFFICIENT
     }
 
     // The losses that the line adds.

@@ -178,10 +178,11 @@ module _ (f : ℕ → Line) (xs : List ℤ) (us : List ℕ) (count : ℕ) where
         zero_more : {m : ℕ} → m + 0 ≡ m
         zero_more = omega arith
 
-    pub all_done : (n : ℕ) → i ≡ n → plain 0 (pos i ∷ pos losses ∷ []) day ≡ in_numbers (line_calls (table f n) (day_in xs)) xs
+    pub all_done : (n : ℕ) → i ≡ n → plain 0 (pos n ∷ pos losses ∷ []) day ≡ in_numbers (line_calls (table f n) (day_in xs)) xs
     unfolding line_calls
     all_done n e =
-        ap (λ t. plain 0 (pos i ∷ pos losses ∷ []) t) a.numbers
+        ap (λ k. plain 0 (pos k ∷ pos losses ∷ []) day) (sym e)
+        ∙ ap (λ t. plain 0 (pos i ∷ pos losses ∷ []) t) a.numbers
         ∙ sym (ap (λ e. in_numbers e xs)
         (ap (λ k. line_calls (table f k) (day_in xs)) (sym e) ∙ ap (λ t. line_calls t (day_in xs)) (sym (append-nil (table f i))) ∙ a.leads [] ∙ ap₂ (λ p q. entered 0 p q a.point) zero_more zero_more))
       where

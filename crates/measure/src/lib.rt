@@ -21,18 +21,14 @@ use taken::State;
 fn measured_for_good(allotted: bool, stage: Stage) -> bool
     ensures { result ≡ both allotted (not (provisional stage)) }
 {
-    if allotted {
-        return !state::is_provisional(stage);
-    }
-    false
+    allotted && stage != Stage::Provisional
 }
 
 // The tests of a measure on a taken point-day, of which `state` is the test.
 pub fn measure_test(state: &State, emission: u64, downstream: u64) -> Result<(), Refusal>
     ensures { Finds state.now (λ d. Tested emission downstream d (status_of result)) }
 {
-    let stage = state.stage;
-    if measured_for_good(state.allotted, stage) {
+    if measured_for_good(state.allotted, state.stage) {
         return Err(Refusal::WrongStage);
     }
     if !state::emission_right(emission, downstream) {

@@ -1,5 +1,5 @@
 -- What a call on plain numbers gives back, by what it does to the point-day that they stand for. Assumes nothing.
-use mathlib.Core.Path.{◌≡◌, refl, sym, ◌∙◌}
+use mathlib.Core.Path.{◌≡◌, refl}
 use mathlib.Core.Bool.{Bool, true, false}
 use mathlib.Core.List.{List}
 use Prim.Native.Nat.{ℕ}
@@ -7,11 +7,16 @@ use lib.IntN.{ℤ}
 use Rattle.point_day.specs.Answers.{Answer, refused}
 use Rattle.numbers.specs.Sums.{pick}
 use Rattle.numbers.specs.Lists.{both}
-use Rattle.numbers.proofs.Lists.{true≢false}
-use Rattle.point_day.specs.Struct.{Outcome, taken, outcome}
+use Rattle.std.specs.Prelude.{Result, Ok, Err}
+use Rattle.numbers.specs.Refusals.{number_of}
+use Rattle.numbers.specs.declared.Refusal.{Refusal}
+use Rattle.point_day.specs.Calls.{Move}
+use Rattle.point_day.specs.Day.{Day}
+use Rattle.point_day.specs.Struct.{Outcome, taken, outcome, called}
 use Rattle.point_day.specs.declared.PointDay.{PointDay}
+use Rattle.point_day.proofs.Called.{called_untaken}
 use Rattle.taken.specs.Tested.{StateOf}
-use Rattle.taken.specs.declared.StateTest.{StateTest}
+use Rattle.taken.specs.declared.State.{State}
 use Rattle.plain_day.specs.Layout.{is_readable, day_in}
 use Rattle.plain_day.specs.Lines.{is_taken}
 use Rattle.plain_day.specs.Tested.{TestedNumbers}
@@ -36,9 +41,19 @@ module _ (call : PointDay → Outcome) (vs xs : List ℤ) where
 
 -- ---- the test
 
-module _ (xs : List ℤ) {s : StateTest} where
-  pub none_read : s.taken ≡ false → is_readable xs ≡ false → TestedNumbers xs s
-  none_read t e = record { is = t ∙ sym (rw e); readable = λ y. true≢false (sym y ∙ t); state = λ y. true≢false (sym y ∙ t) }
+-- no point-day is read
+pub none_read : (xs : List ℤ) → is_readable xs ≡ false → is_taken xs ≡ false
+none_read xs e = rw e
 
-  pub one_read : is_readable xs ≡ true → StateOf (day_in xs) s → TestedNumbers xs s
-  one_read e t = record { is = t.is ∙ sym (rw e); readable = λ y. e; state = λ y. t }
+-- one is read, of which r is the test
+pub one_read : (xs : List ℤ) (r : Result State Refusal) → is_readable xs ≡ true → StateOf (day_in xs) r → TestedNumbers xs r
+one_read xs (Ok s) e k = (e, k)
+one_read xs (Err r) e k = (rw e k.0, k.1)
+
+-- the one that is read is taken
+pub known_taken : (xs : List ℤ) {s : State} → TestedNumbers xs (Ok s) → is_taken xs ≡ true
+known_taken xs t = rw t.0 t.1.is_taken
+
+-- a call on numbers of which none is read that is taken
+pub untaken : (move : Day → Move) (vs xs : List ℤ) {r : Refusal} → TestedNumbers xs (Err r) → plain (number_of r) vs xs ≡ plain_call (called move) vs xs
+untaken move vs xs t = rw t.1 (no_day (called move) vs xs t.0 (λ d n. called_untaken move d n))

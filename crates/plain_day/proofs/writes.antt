@@ -1,2 +1,1 @@
-mod Clearing
 mod Signed

@@ -1,6 +1,8 @@
 -- A call on a point-day in plain numbers: its status, the numbers behind its pointers, and the point-day afterwards. Assumes nothing.
-use Rattle.std.specs.Prelude.{List, [], ◌∷◌, ℕ, eqb, ℤ, pos, length}
+use Rattle.std.specs.Prelude.{Result, Ok, Err, List, [], ◌∷◌, ℕ, eqb, ℤ, pos, length}
 use Rattle.numbers.specs.Sums.{pick}
+use Rattle.numbers.specs.Refusals.{number_of}
+use Rattle.numbers.specs.declared.Refusal.{Refusal}
 use Rattle.point_day.specs.Answers.{Answer, refused, done, losses_added, rows_looked_at, within_tolerance, revision_assigned}
 use Rattle.point_day.specs.Day.{fresh}
 use Rattle.point_day.specs.Struct.{Outcome, laid}
@@ -15,6 +17,11 @@ pub record Plain : Type 0 where
 
 abbrev pub plain : ℕ → List ℤ → List ℤ → Plain
 plain n vs xs = record { status = n; values = vs; numbers = xs }
+
+-- what the code's answer r stands for: its values, or the number of the refusal and the values that were there before
+abbrev pub answered : {A : Type 0} → (A → List ℤ) → Result A Refusal → List ℤ → List ℤ → Plain
+answered values (Ok a) before xs = plain 0 (values a) xs
+answered values (Err r) before xs = plain (number_of r) before xs
 
 -- a refused call changes nothing; an accepted one stores the point-day afterwards and gives the values that document 01 names. Of a
 -- revise these are 1 if R is within the tolerance, and then the point-day stays, 0 if it is assigned; and R

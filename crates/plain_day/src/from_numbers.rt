@@ -12,7 +12,7 @@ fn user_number(x: i64) -> u16
     requires { up_to LAST_NUMBER x ≡ true }
     ensures { result ≡ nat_abs x }
 {
-    wire::magnitude(x) as u16
+    x.unsigned_abs() as u16
 }
 
 // User numbers, in 16 bits.
@@ -20,32 +20,28 @@ pub fn copy_users(xs: &[i64], users: &mut [u16])
     requires { (length users.old ≡ length xs.now) × (every (up_to LAST_NUMBER) xs.now ≡ true) }
     ensures { users.new ≡ map nat_abs xs.now }
 {
-    let mut i = 0;
-    while i < xs.len() {
+    for i in 0..xs.len() {
         users[i] = user_number(xs[i]);
-        i += 1;
     }
 }
 
 pub fn stage_of(number: u64) -> Stage
     ensures { result ≡ stage_of number }
 {
-    if number == 0 {
-        return Stage::Provisional;
+    match number {
+        0 => Stage::Provisional,
+        1 => Stage::FinalProvisional,
+        _ => Stage::FinalDefinitive,
     }
-    if number == 1 {
-        return Stage::FinalProvisional;
-    }
-    Stage::FinalDefinitive
 }
 
 pub fn measurement_of(measured: u64, emission: u64, downstream: u64) -> Measurement
     ensures { result ≡ measurement_of measured emission downstream }
 {
-    if measured == 0 {
-        return Measurement::Unmeasured;
+    match measured {
+        0 => Measurement::Unmeasured,
+        _ => Measurement::Measured(emission, downstream),
     }
-    Measurement::Measured(emission, downstream)
 }
 
 // The size of a number of the list.
@@ -53,7 +49,7 @@ fn size_at(xs: &[i64], i: usize) -> u64
     requires { i < length xs.now }
     ensures { result ≡ nat_abs (atZ xs.now i) }
 {
-    wire::magnitude(xs[i])
+    xs[i].unsigned_abs()
 }
 
 pub fn stage_in(xs: &[i64]) -> Stage
@@ -91,9 +87,5 @@ pub fn count_in(xs: &[i64]) -> usize
 pub fn stage_number(stage: Stage) -> i64
     ensures { result ≡ pos (stage_number stage) }
 {
-    match stage {
-        Stage::Provisional => 0,
-        Stage::FinalProvisional => 1,
-        Stage::FinalDefinitive => 2,
-    }
+    stage as i64
 }

@@ -5,13 +5,15 @@ pub mod from_numbers;
 pub mod writes;
 
 ghost use Rattle.std.specs.Prelude.{◌≡◌, length};
+ghost use Rattle.numbers.specs.Sums.{atZ};
 ghost use Rattle.numbers.specs.Lists.{every};
-ghost use Rattle.plain_day.specs.Layout.{LENGTH, up_to, emissions_readable, head_readable, is_readable, users_in, day_in};
+ghost use Rattle.plain_day.specs.Layout.{LENGTH, STAGE_AT, ALLOTTED_AT, MEASURED_AT, EMISSION_AT, DOWNSTREAM_AT, COUNT_AT, up_to, emissions_readable, head_readable, is_readable, users_in, day_in};
 ghost use Rattle.taken.specs.Tested.{StateOf};
 ghost use Rattle.plain_day.specs.Tested.{TestedNumbers};
 
+use numbers::Refusal;
 use point_day::{CELLS, LIMIT, USERS};
-use taken::StateTest;
+use taken::State;
 
 // A point-day in plain numbers, which the caller lends: the stage (0 provisional, 1 final provisional, 2 final definitive), whether it is
 // allotted and measured (0, 1), emission and downstream emission, the count of users, and the arrays.
@@ -46,58 +48,32 @@ const LAST_NUMBER: u64 = 65535;
 fn up_to(x: i64, most: u64) -> bool
     ensures { result ≡ up_to most x }
 {
-    if numbers::is_negative(x) {
-        return false;
-    }
-    wire::magnitude(x) <= most
+    x >= 0 && x.unsigned_abs() <= most
 }
 
 // Whether each does.
 fn all_up_to(xs: &[i64], most: u64) -> bool
     ensures { result ≡ every (up_to most) xs.now }
 {
-    let mut i = 0;
-    while i < xs.len() {
-        if !up_to(xs[i], most) {
-            return false;
-        }
-        i += 1;
-    }
-    true
+    xs.iter().all(|&x| up_to(x, most))
 }
 
 fn emissions_readable(emission: i64, downstream: i64) -> bool
     ensures { result ≡ emissions_readable emission downstream }
 {
-    if !up_to(emission, LIMIT) {
-        return false;
-    }
-    up_to(downstream, wire::magnitude(emission))
+    up_to(emission, LIMIT) && up_to(downstream, emission.unsigned_abs())
 }
 
-fn head_readable(
-    stage: i64,
-    allotted: i64,
-    measured: i64,
-    emission: i64,
-    downstream: i64,
-    count: i64,
-) -> bool
-    ensures { result ≡ head_readable stage allotted measured emission downstream count }
+// Whether the six numbers before the users are in range.
+fn head_readable(xs: &[i64]) -> bool
+    requires { length xs.now ≡ LENGTH }
+    ensures { result ≡ head_readable (atZ xs.now STAGE_AT) (atZ xs.now ALLOTTED_AT) (atZ xs.now MEASURED_AT) (atZ xs.now EMISSION_AT) (atZ xs.now DOWNSTREAM_AT) (atZ xs.now COUNT_AT) }
 {
-    if !up_to(stage, 2) {
-        return false;
-    }
-    if !up_to(allotted, 1) {
-        return false;
-    }
-    if !up_to(measured, 1) {
-        return false;
-    }
-    if !emissions_readable(emission, downstream) {
-        return false;
-    }
-    up_to(count, USERS as u64)
+    up_to(xs[STAGE_AT], 2)
+        && up_to(xs[ALLOTTED_AT], 1)
+        && up_to(xs[MEASURED_AT], 1)
+        && emissions_readable(xs[EMISSION_AT], xs[DOWNSTREAM_AT])
+        && up_to(xs[COUNT_AT], USERS as u64)
 }
 
 pub fn is_readable(xs: &[i64]) -> bool
@@ -106,21 +82,11 @@ pub fn is_readable(xs: &[i64]) -> bool
     if xs.len() != LENGTH {
         return false;
     }
-    if !head_readable(
-        xs[STAGE_AT],
-        xs[ALLOTTED_AT],
-        xs[MEASURED_AT],
-        xs[EMISSION_AT],
-        xs[DOWNSTREAM_AT],
-        xs[COUNT_AT],
-    ) {
-        return false;
-    }
-    all_up_to(&xs[USERS_AT..CONSUMPTION_AT], LAST_NUMBER)
+    head_readable(xs) && all_up_to(&xs[USERS_AT..CONSUMPTION_AT], LAST_NUMBER)
 }
 
 // The test of the point-day that is read from plain numbers, with these user numbers.
-fn test_read(day: &[i64], users: [u16; USERS]) -> StateTest
+fn test_read(day: &[i64], users: [u16; USERS]) -> Result<State, Refusal>
     requires { (length day.now ≡ LENGTH) × (users ≡ users_in day.now) }
     ensures { StateOf (day_in day.now) result }
 {
@@ -137,14 +103,14 @@ fn test_read(day: &[i64], users: [u16; USERS]) -> StateTest
     )
 }
 
-// The test of a point-day in plain numbers: whether one is read from them and is taken.
-pub fn test_numbers(day: &[i64]) -> StateTest
+// The test of a point-day in plain numbers: refused if none is read from them that is taken.
+pub fn test_numbers(day: &[i64]) -> Result<State, Refusal>
     ensures { TestedNumbers day.now result }
 {
     if !is_readable(day) {
-        return taken::untaken();
+        return Err(Refusal::OutOfRange);
     }
-    let mut users = point_day::no_users();
+    let mut users = numbers::repeat::<u16, USERS>(0);
     from_numbers::copy_users(&day[USERS_AT..CONSUMPTION_AT], &mut users);
     test_read(day, users)
 }

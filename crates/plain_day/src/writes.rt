@@ -17,11 +17,7 @@ pub fn clear(day: &mut [i64], at: usize)
     requires { at ≤ length day.old }
     ensures { day.new ≡ take at day.old ++ replicate (length day.old - at) (pos 0) }
 {
-    let mut i = at;
-    while i < day.len() {
-        day[i] = 0;
-        i += 1;
-    }
+    day[at..].fill(0);
 }
 
 // Numbers put into a buffer from a place on.
@@ -29,11 +25,7 @@ pub fn put(out: &mut [i64], at: usize, xs: &[i64])
     requires { at + length xs.now ≤ length out.old }
     ensures { out.new ≡ put at xs.now out.old }
 {
-    let mut i = 0;
-    while i < xs.len() {
-        out[at + i] = xs[i];
-        i += 1;
-    }
+    out[at..at + xs.len()].copy_from_slice(xs);
 }
 
 // A user in the next slot.
@@ -42,7 +34,7 @@ pub fn append(day: &mut [i64], user: u16)
     ensures { day.new ≡ set (set day.old (USERS_AT + count_in day.old) (pos user)) COUNT_AT (pos (count_in day.old + 1)) }
 {
     let n = from_numbers::count_in(day);
-    day[USERS_AT + n] = user as i64;
+    day[USERS_AT + n] = i64::from(user);
     day[COUNT_AT] = (n + 1) as i64;
 }
 
@@ -85,21 +77,13 @@ pub fn start(day: &mut [i64], stage: Stage)
     day[STAGE_AT] = from_numbers::stage_number(stage);
 }
 
-fn wide(user: u16) -> i64
-    ensures { result ≡ pos user }
-{
-    user as i64
-}
-
 // User numbers from the first slot on.
 fn put_users(day: &mut [i64], users: &[u16])
     requires { (length day.old ≡ LENGTH) × (length users.now ≤ USERS) }
     ensures { day.new ≡ put USERS_AT (map pos users.now) day.old }
 {
-    let mut i = 0;
-    while i < users.len() {
-        day[USERS_AT + i] = wide(users[i]);
-        i += 1;
+    for (i, &user) in users.iter().enumerate() {
+        day[USERS_AT + i] = i64::from(user);
     }
 }
 

@@ -32,7 +32,7 @@ pub const ROWS: usize = 15;
 
 pub const PAIRS: usize = ROWS * USERS;
 
-#[derive(Clone, Copy)]
+#[derive(Clone, Copy, Debug, PartialEq, Eq)]
 pub enum Stage {
     Provisional,
     FinalProvisional,

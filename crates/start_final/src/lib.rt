@@ -19,11 +19,7 @@ use taken::State;
 fn is_last(stage: Stage) -> bool
     ensures { result ≡ last_stage stage }
 {
-    match stage {
-        Stage::Provisional => false,
-        Stage::FinalProvisional => false,
-        Stage::FinalDefinitive => true,
-    }
+    stage == Stage::FinalDefinitive
 }
 
 // The stage after a stage.
@@ -41,18 +37,14 @@ pub fn next_stage(stage: Stage) -> Stage
 fn cannot_start(allotted: bool, stage: Stage) -> bool
     ensures { result ≡ either (not allotted) (last_stage stage) }
 {
-    if allotted {
-        return is_last(stage);
-    }
-    true
+    !allotted || is_last(stage)
 }
 
 // The tests of a start-final on a taken point-day, of which `state` is the test.
 pub fn start_final_test(state: &State) -> Result<(), Refusal>
     ensures { Finds state.now (λ d. Tested d (status_of result)) }
 {
-    let stage = state.stage;
-    if cannot_start(state.allotted, stage) {
+    if cannot_start(state.allotted, state.stage) {
         return Err(Refusal::WrongStage);
     }
     Ok(())
@@ -62,19 +54,13 @@ pub fn start_final_test(state: &State) -> Result<(), Refusal>
 fn restart(day: PointDay) -> PointDay
     ensures { result ≡ restarted day }
 {
-    let before = day.stage;
-    let stage = next_stage(before);
-    let consumption = point_day::no_cells();
-    let losses = point_day::no_cells();
-    let balance = point_day::no_cells();
-    let unrevised = point_day::no_amounts();
     PointDay {
-        stage: stage,
+        stage: next_stage(day.stage),
         allotted: false,
-        consumption: consumption,
-        losses: losses,
-        balance: balance,
-        revision: unrevised,
+        consumption: numbers::repeat(0),
+        losses: numbers::repeat(0),
+        balance: numbers::repeat(0),
+        revision: numbers::repeat(0),
         ..day
     }
 }

@@ -1,21 +1,15 @@
 -- A user's consumption and losses, tested by their bits. Assumes nothing.
-use mathlib.Core.Path.{◌≡◌, refl}
-use mathlib.Core.Bool.{true, false}
+use mathlib.Core.Path.{refl}
 use mathlib.Core.List.{List}
-use mathlib.Core.Logic.{⊎_elim}
-use Prim.Native.Nat.{ℕ, ◌+◌, ◌*◌, ◌^◌, ◌≤◌, ◌<◌}
+use Prim.Native.Nat.{ℕ, ◌+◌, ◌*◌, ◌≤◌, ◌<◌}
 use native.Mathlib.Omega.{arith}
 use lib.Bits.{bit_or}
 use lib.IntN.{ℤ, pos, ◌+ℤ◌}
-use lib.Signed.{lt_z, le_z}
-use borrow.Author.Tests.{ltb-true, leb-true, leb-false, le-ltb}
 use mir.Syntax.{w64}
-use mir.Val.{of_z, to_z, SFits}
-use mir.Facts.{to_z_pos}
+use mir.Val.{of_z, SFits}
 use Rattle.numbers.specs.Sums.{sumZ, atZ}
-use Rattle.numbers.specs.Amounts.{Within, Between, Decides}
-use Rattle.numbers.proofs.Sums.{lt_or_ge}
-use Rattle.numbers.proofs.Lists.{true≢false, never, passed}
+use Rattle.numbers.specs.Amounts.{Within, Between}
+use Rattle.numbers.proofs.Lists.{passed}
 use Rattle.numbers.proofs.Amounts.{widen, within_add, within_first}
 use Rattle.numbers.proofs.Bits.{Gathered, gather, amount_bits}
 use Rattle.point_day.specs.Limits.{KINDS}
@@ -36,26 +30,6 @@ gather_kind cs ls s n bits f g h =
     gather (of_z w64 l) one (amount_bits 33 LOW refl (omega arith) l g)
     (λ p q. passed (λ k. Between (pos 0) (pos LOW) (atZ cs (KINDS * s + k)) × Between (pos 0) (pos LOW) (atZ ls (KINDS * s + k))) 0 n p.0 (p.1, q))
     (λ r. ((λ k a b. r k a (omega arith), (r n (omega arith) (omega arith)).0), (r n (omega arith) (omega arith)).1))
-
--- bits that are read as an amount below 0, or at most LOW
-module _ {P : Type 0} (bits : ℕ) (h : Gathered 33 bits P) where
-  pub not_low : lt_z (to_z w64 bits) (pos 0) ≡ true → Decides false P
-  not_low e = record {
-    yes = λ q. never q;
-    no = λ q p. let l : bits < 2 ^ 33 = h.back p in omega (arith, ltb-true bits 0 (rw (to_z_pos w64 {n = bits} (omega arith)) at e));
-  }
-
-  top_bit : lt_z (to_z w64 bits) (pos 0) ≡ false → bits < 2 ^ 63
-  top_bit e = ⊎_elim (λ l. l) (λ l. true≢false (rw (le-ltb bits (2 ^ 63) l) at e)) (lt_or_ge bits (2 ^ 63))
-
-  pub low_if : lt_z (to_z w64 bits) (pos 0) ≡ false → Decides (le_z (to_z w64 bits) (pos LOW)) P
-  low_if e =
-      let t : to_z w64 bits ≡ pos bits = to_z_pos w64 {n = bits} (omega (arith, top_bit e)) in
-      rw t
-      record {
-        yes = λ q. h.each (omega (arith, leb-true bits LOW q));
-        no = λ q p. omega (arith, leb-false bits LOW q, h.back p);
-      }
 
 -- amounts of a low slot are small, and their sum is
 module _ (cs ls : List ℤ) (s : ℕ) (h : LowSlot cs ls s) where

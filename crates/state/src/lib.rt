@@ -15,38 +15,32 @@ pub fn slot_of(users: &[u16], count: usize, user: u16) -> usize
     requires { count ≤ length users.now }
     ensures { Placed user count users.now result }
 {
-    let mut i = 0;
-    while i < count {
+    for i in 0..count {
         if users[i] == user {
             return i;
         }
-        i += 1;
     }
-    i
+    count
 }
 
 // The greatest amount of which all sums fit well into 64 bits, and whose bits are all ones.
 const LOW: i64 = 8589934591;
 
 // Whether a user's consumption and losses lie in 0 to LOW: their bits are gathered, and tested once.
-pub fn user_low<'a>(consumption: &'a [i64], losses: &'a [i64], slot: usize) -> bool
+pub fn user_low(consumption: &[i64], losses: &[i64], slot: usize) -> bool
     requires { (slot < USERS) × (length consumption.now ≡ CELLS) × (length losses.now ≡ CELLS) }
     ensures { Decides result (LowSlot consumption.now losses.now slot) }
 {
     let mut bits: i64 = 0;
-    let mut k = 0;
-    while k < KINDS {
-        bits = bits | consumption[KINDS * slot + k] | losses[KINDS * slot + k];
-        k += 1;
+    for k in 0..KINDS {
+        bits |= consumption[KINDS * slot + k];
+        bits |= losses[KINDS * slot + k];
     }
-    if bits < 0 {
-        return false;
-    }
-    bits <= LOW
+    0 <= bits && bits <= LOW
 }
 
 // Consumption and losses of a cell.
-fn cell_offtake<'a>(consumption: &'a [i64], losses: &'a [i64], i: usize) -> i64
+fn cell_offtake(consumption: &[i64], losses: &[i64], i: usize) -> i64
     requires { (i < CELLS) × Within ROOM (atZ consumption.now i) × Within ROOM (atZ losses.now i) × (length consumption.now ≡ CELLS) × (length losses.now ≡ CELLS) }
     ensures { result ≡ atZ consumption.now i +ℤ atZ losses.now i }
 {
@@ -54,44 +48,38 @@ fn cell_offtake<'a>(consumption: &'a [i64], losses: &'a [i64], i: usize) -> i64
 }
 
 // A user's consumption and losses.
-pub fn user_offtake<'a>(consumption: &'a [i64], losses: &'a [i64], slot: usize) -> i64
+pub fn user_offtake(consumption: &[i64], losses: &[i64], slot: usize) -> i64
     requires { (slot < USERS) × LowSlot consumption.now losses.now slot × (length consumption.now ≡ CELLS) × (length losses.now ≡ CELLS) }
     ensures { result ≡ offtake_at consumption.now losses.now slot }
 {
     let mut sum: i64 = 0;
-    let mut k = 0;
-    while k < KINDS {
-        sum = sum + cell_offtake(consumption, losses, KINDS * slot + k);
-        k += 1;
+    for k in 0..KINDS {
+        sum += cell_offtake(consumption, losses, KINDS * slot + k);
     }
     sum
 }
 
 // Whether a user's balances and its revision are at most 2,000,000,000 in size.
-pub fn user_sized<'a>(balance: &'a [i64], revision: &'a [i64], slot: usize) -> bool
+pub fn user_sized(balance: &[i64], revision: &[i64], slot: usize) -> bool
     requires { (slot < USERS) × (length balance.now ≡ CELLS) × (length revision.now ≡ USERS) }
     ensures { Decides result (SizedSlot balance.now revision.now slot) }
 {
-    let mut k = 0;
-    while k < KINDS {
-        if !numbers::size_at_most(balance[KINDS * slot + k], AMOUNT) {
+    for k in 0..KINDS {
+        if AMOUNT < balance[KINDS * slot + k].unsigned_abs() {
             return false;
         }
-        k += 1;
     }
-    numbers::size_at_most(revision[slot], AMOUNT)
+    revision[slot].unsigned_abs() <= AMOUNT
 }
 
 // A user's balances and revision.
-pub fn user_balance<'a>(balance: &'a [i64], revision: &'a [i64], slot: usize) -> i64
+pub fn user_balance(balance: &[i64], revision: &[i64], slot: usize) -> i64
     requires { (slot < USERS) × SizedSlot balance.now revision.now slot × (length balance.now ≡ CELLS) × (length revision.now ≡ USERS) }
     ensures { result ≡ balance_at balance.now revision.now slot }
 {
     let mut sum: i64 = 0;
-    let mut k = 0;
-    while k < KINDS {
-        sum = sum + balance[KINDS * slot + k];
-        k += 1;
+    for k in 0..KINDS {
+        sum += balance[KINDS * slot + k];
     }
     sum + revision[slot]
 }
@@ -101,11 +89,11 @@ pub fn add_at(cells: &mut [i64], i: usize, x: u64)
     requires { (i < length cells.old) × (x ≤ LIMIT) × Within LIMIT (atZ cells.old i) }
     ensures { cells.new ≡ more i x cells.old }
 {
-    cells[i] = cells[i] + x as i64;
+    cells[i] += x as i64;
 }
 
 // Consumption, losses and balance of a cell.
-fn cell_sum<'a>(consumption: &'a [i64], losses: &'a [i64], balance: &'a [i64], i: usize) -> i64
+fn cell_sum(consumption: &[i64], losses: &[i64], balance: &[i64], i: usize) -> i64
     requires { (i < CELLS) × Small consumption.now × Small losses.now × Small balance.now × (length consumption.now ≡ CELLS) × (length losses.now ≡ CELLS) × (length balance.now ≡ CELLS) }
     ensures { result ≡ cellZ consumption.now losses.now balance.now i }
 {
@@ -113,41 +101,37 @@ fn cell_sum<'a>(consumption: &'a [i64], losses: &'a [i64], balance: &'a [i64], i
 }
 
 // A user's whole amount.
-fn whole_amount<'a>(
-    consumption: &'a [i64],
-    losses: &'a [i64],
-    balance: &'a [i64],
-    revision: &'a [i64],
+fn whole_amount(
+    consumption: &[i64],
+    losses: &[i64],
+    balance: &[i64],
+    revision: &[i64],
     slot: usize,
 ) -> i64
     requires { (slot < USERS) × Small consumption.now × Small losses.now × Small balance.now × Small revision.now × Lengths consumption.now losses.now balance.now revision.now }
     ensures { result ≡ whole_at consumption.now losses.now balance.now revision.now slot }
 {
     let mut sum: i64 = 0;
-    let mut k = 0;
-    while k < KINDS {
-        sum = sum + cell_sum(consumption, losses, balance, KINDS * slot + k);
-        k += 1;
+    for k in 0..KINDS {
+        sum += cell_sum(consumption, losses, balance, KINDS * slot + k);
     }
     sum + revision[slot]
 }
 
 // The whole amounts of n users; numbers of `wholes` past them stay.
-pub fn whole_amounts<'a>(
-    consumption: &'a [i64],
-    losses: &'a [i64],
-    balance: &'a [i64],
-    revision: &'a [i64],
+pub fn whole_amounts(
+    consumption: &[i64],
+    losses: &[i64],
+    balance: &[i64],
+    revision: &[i64],
     n: usize,
     wholes: &mut [i64],
 )
     requires { (n ≤ USERS) × (n ≤ length wholes.old) × Small consumption.now × Small losses.now × Small balance.now × Small revision.now × Lengths consumption.now losses.now balance.now revision.now }
     ensures { wholes.new ≡ table (whole_at consumption.now losses.now balance.now revision.now) n ++ drop n wholes.old }
 {
-    let mut s = 0;
-    while s < n {
+    for s in 0..n {
         wholes[s] = whole_amount(consumption, losses, balance, revision, s);
-        s += 1;
     }
 }
 
@@ -155,31 +139,21 @@ pub fn whole_amounts<'a>(
 pub fn emission_right(emission: u64, downstream: u64) -> bool
     ensures { result ≡ emission_right emission downstream }
 {
-    if LIMIT < emission {
-        return false;
-    }
-    downstream <= emission
+    emission <= LIMIT && downstream <= emission
 }
 
 // Whether there is a measurement.
 pub fn is_measured(measurement: Measurement) -> bool
     ensures { result ≡ is_measured measurement }
 {
-    match measurement {
-        Measurement::Unmeasured => false,
-        Measurement::Measured(_, _) => true,
-    }
+    matches!(measurement, Measurement::Measured(_, _))
 }
 
 // Whether the stage is provisional.
 pub fn is_provisional(stage: Stage) -> bool
     ensures { result ≡ provisional stage }
 {
-    match stage {
-        Stage::Provisional => true,
-        Stage::FinalProvisional => false,
-        Stage::FinalDefinitive => false,
-    }
+    stage == Stage::Provisional
 }
 
 // Net emission; 0 if unmeasured.

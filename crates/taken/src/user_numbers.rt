@@ -10,10 +10,7 @@ fn stands_before(marked: bool, users: &[u16], n: usize, user: u16) -> bool
     requires { n ≤ length users.now }
     ensures { result ≡ both marked (has user (take n users.now)) }
 {
-    if !marked {
-        return false;
-    }
-    state::slot_of(users, n, user) < n
+    marked && state::slot_of(users, n, user) < n
 }
 
 // Whether no user number is 0 and none stands twice.
@@ -22,8 +19,7 @@ pub fn numbers_right(users: &[u16], count: usize) -> bool
     ensures { result ≡ both (not (has 0 (take count users.now))) (distinct (take count users.now)) }
 {
     let mut marked = numbers::unmarked();
-    let mut i = 0;
-    while i < count {
+    for i in 0..count {
         let user = users[i];
         if user == 0 {
             return false;
@@ -33,7 +29,6 @@ pub fn numbers_right(users: &[u16], count: usize) -> bool
             return false;
         }
         marked[bucket] = true;
-        i += 1;
     }
     true
 }
@@ -43,10 +38,8 @@ pub fn none_past(users: &[u16], count: usize) -> bool
     ensures { Decides result ((i : ℕ) → count ≤ i → i < length users.now → get_or users.now i 0 ≡ 0) }
 {
     let mut bits: u16 = 0;
-    let mut i = count;
-    while i < users.len() {
-        bits = bits | users[i];
-        i += 1;
+    for i in count..users.len() {
+        bits |= users[i];
     }
     bits == 0
 }

@@ -8,13 +8,10 @@ use lib.ListN.{length, take}
 use borrow.Author.Tests.{leb-true}
 use Rattle.numbers.specs.Nearest.{nearest}
 use Rattle.numbers.specs.Sums.{pick}
-use Rattle.numbers.specs.Lists.{both, every, rising}
+use Rattle.numbers.specs.Lists.{both, every}
 use Rattle.numbers.proofs.Lists.{both_fst, both_snd}
 use Rattle.numbers.specs.Refusals.{NO_BASIS}
 use Rattle.calendar.specs.Answers.{refused, given}
-use Rattle.calendar.specs.Days.{calendar_right}
-use Rattle.calendar.proofs.Holidays.{calendar_rising}
-use Rattle.supply.specs.Amounts.{amount_right, flows_right}
 use Rattle.history.specs.History.{ENTRIES, Dated, RealReading, entry_right, history_right, last_three, sum_of, mean_value, looked_at, is_empty, is_new}
 use Rattle.history.specs.Search.{found_in}
 use Rattle.telemetered.specs.Telemetered.{with_basis, from_history, from_found, first_of}

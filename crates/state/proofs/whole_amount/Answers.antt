@@ -13,11 +13,6 @@ use Rattle.state.proofs.whole_amount.Goals as goal
 pub loop-k-init : goal.loop-k-init
 loop-k-init c = (omega arith, unfold sumZ in refl)
 
-pub cell_sum-sum-requires : goal.cell_sum-sum-requires
-cell_sum-sum-requires c =
-    let p = c.requires in
-    (omega arith, p.1, p.2, p.3, p.5.consumption, p.5.losses, p.5.balance)
-
 pub overflow_add-sum : goal.overflow_add-sum
 overflow_add-sum c =
     let k = c.loop-k.k in

@@ -4,21 +4,15 @@ use native.Mathlib.Omega.{arith}
 use mir.Syntax.{w64}
 use mir.Val.{of_z, to_z}
 use Rattle.numbers.proofs.Amounts.{back}
-use Rattle.numbers.proofs.Filled.{fill_none, fill_step, fill_end}
+use Rattle.numbers.proofs.Filled.{fill_none, fill_step}
 use Rattle.state.proofs.Ranges.{whole_within}
 use Rattle.state.proofs.whole_amounts.Goals as goal
 
 pub loop-s-init : goal.loop-s-init
 loop-s-init c = (omega arith, fill_none _ _)
 
-pub whole_amount-requires : goal.whole_amount-requires
-whole_amount-requires c = (omega arith, c.requires.2, c.requires.3, c.requires.4, c.requires.5, c.requires.6)
-
 pub loop-s-preserved : goal.loop-s-preserved
 loop-s-preserved c =
     let a = c.args in
     let w = whole_within a.consumption.now a.losses.now a.balance.now c.requires.2 c.requires.3 c.requires.4 a.revision.now c.requires.5 c.loop-s.s in
     (omega arith, fill_step c.loop-s.invariant.1 (omega arith) (ap (λ z. to_z w64 (of_z w64 z)) c.whole_amount.ensures ∙ back w (omega arith)))
-
-pub returns : goal.returns
-returns c = fill_end c.loop-s.invariant.1 (omega arith)

@@ -1,5 +1,5 @@
 use mathlib.Core.Path.{◌≡◌}
-use Prim.Native.Nat.{ℕ, ◌-◌, ◌≤◌, ◌<◌}
+use Prim.Native.Nat.{ℕ, ◌≤◌, ◌<◌}
 use Rattle.numbers.specs.Sums.{sumZ}
 use Rattle.numbers.proofs.Filled.{Filled}
 use Rattle.taken.specs.Tested.{added_at}
@@ -12,6 +12,3 @@ invariant-loop-s l =
     × ((j : ℕ) → 0 ≤ j → j < l.s → Added l.initial.wholes l.balance l.revision j)
     × Filled (added_at l.initial.wholes l.balance l.revision) l.initial.wholes l.s l.wholes
     × (l.sum ≡ (sumZ (added_at l.initial.wholes l.balance l.revision) l.s))
-
-abbrev pub decreases-loop-s : goal.decreases-loop-s
-decreases-loop-s l = l.n - l.s

@@ -1,24 +1,18 @@
 -- `taken::add_offtakes` meets its contract: a column that is filled user by user, and the sum so far. Assumes nothing.
-use mathlib.Core.Path.{◌≡◌, refl, ap, ◌∙◌}
+use mathlib.Core.Path.{refl, ap, ◌∙◌}
 use Prim.Native.Nat.{◌*◌}
 use native.Mathlib.Omega.{arith}
 use mir.Syntax.{w64}
 use mir.Val.{of_z, to_z}
 use Rattle.numbers.specs.Sums.{sumZ}
 use Rattle.numbers.proofs.Amounts.{back, next_turn_kept, next_turn_fits}
-use Rattle.numbers.proofs.Filled.{fill_none, fill_step, fill_end}
+use Rattle.numbers.proofs.Filled.{fill_none, fill_step}
 use Rattle.state.specs.Places.{ROOM, offtake_at}
 use Rattle.state.proofs.Lows.{offtake_within}
-use Rattle.taken.proofs.Parts.{offtakes_back, offtakes_found}
 use Rattle.taken.proofs.add_offtakes.Goals as goal
 
 pub loop-s-init : goal.loop-s-init
 loop-s-init c = (omega arith, fill_none _ _, unfold sumZ in refl)
-
-pub user_offtake-offtake-requires : goal.user_offtake-offtake-requires
-user_offtake-offtake-requires c =
-    let p = c.requires in
-    (omega arith, p.4 c.loop-s.s (omega arith), p.1, p.2)
 
 pub overflow_add-sum : goal.overflow_add-sum
 overflow_add-sum c =
@@ -40,13 +34,3 @@ loop-s-preserved c =
       rw c.user_offtake-offtake.ensures
           (next_turn_kept (10 * ROOM) f l.s (λ j m. offtake_within a.consumption.now a.losses.now j (low j (omega arith))) _ l.invariant.2 (omega arith)),
     )
-
-pub returns : goal.returns
-returns c =
-    let a = c.args in
-    let l = c.loop-s in
-    let e : l.s ≡ a.n = omega arith in
-    let h = c.requires.4 in
-    offtakes_found a.consumption.now a.losses.now a.n a.wholes.now _ h _
-    (offtakes_back a.consumption.now a.losses.now a.n l.invariant.2 e)
-    (fill_end l.invariant.1 e)

@@ -1,5 +1,5 @@
 use mathlib.Core.Path.{◌≡◌}
-use Prim.Native.Nat.{◌-◌, ◌≤◌}
+use Prim.Native.Nat.{◌≤◌}
 use Rattle.numbers.specs.Sums.{sumZ}
 use Rattle.numbers.proofs.Filled.{Filled}
 use Rattle.state.specs.Places.{offtake_at}
@@ -10,6 +10,3 @@ invariant-loop-s l =
     (l.s ≤ l.n)
     × Filled (offtake_at l.consumption l.losses) l.initial.wholes l.s l.wholes
     × (l.sum ≡ (sumZ (offtake_at l.consumption l.losses) l.s))
-
-abbrev pub decreases-loop-s : goal.decreases-loop-s
-decreases-loop-s l = l.n - l.s

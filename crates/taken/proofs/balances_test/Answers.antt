@@ -1,12 +1,8 @@
 -- `taken::balances_test` meets its contract: sizes first, then the column. Assumes nothing.
-use borrow.Author.Tests.{not-true, not-false}
-use Rattle.taken.proofs.Parts.{found_none}
+use borrow.Author.Rules.{rules}
 use Rattle.taken.proofs.balances_test.Goals as goal
-
-pub returns-then-not-all_sized : goal.returns-then-not-all_sized
-returns-then-not-all_sized c = found_none c.wrong.ensures (λ p. c.all_sized.ensures.no (not-true _ c.if-not-all_sized.true-raw) p.sizes)
 
 pub add_balances-requires : goal.add_balances-requires
 add_balances-requires c =
     let p = c.requires in
-    (p.0, p.1, p.2, p.3, p.4, c.all_sized.ensures.yes (not-false _ c.if-not-all_sized.false-raw))
+    (p.0, p.1, p.2, p.3, p.4, c.all_sized.ensures.yes (search rules))

@@ -1,4 +1,4 @@
-use Prim.Native.Nat.{◌-◌, ◌≤◌}
+use Prim.Native.Nat.{◌≤◌}
 use lib.IntN.{nat_abs}
 use lib.ListN.{length}
 use Rattle.numbers.specs.Sums.{atZ}
@@ -7,6 +7,3 @@ use Rattle.plain_day.proofs.from_numbers.copy_users.Given as goal
 
 abbrev pub invariant-loop-i : goal.invariant-loop-i
 invariant-loop-i l = (l.i ≤ length l.xs) × Filled (λ k. nat_abs (atZ l.xs k)) l.initial.users l.i l.users
-
-abbrev pub decreases-loop-i : goal.decreases-loop-i
-decreases-loop-i l = length l.xs - l.i

@@ -10,4 +10,4 @@ pub returns : goal.returns
 returns c =
     let a = c.args in
     let h : SFits w64 (atZ a.xs.now a.i) = search rules in
-    rw (to_z-of_z h) at c.magnitude.ensures
+    rw (to_z-of_z h) at c.unsigned_abs.ensures.value

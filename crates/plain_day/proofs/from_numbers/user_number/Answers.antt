@@ -7,7 +7,7 @@ use Rattle.plain_day.proofs.from_numbers.user_number.Goals as goal
 
 pub overflow_cast-result : goal.overflow_cast-result
 overflow_cast-result c =
-    omega (arith, rw (to_z-of_z c.ranges.x) at c.magnitude.ensures, up_to_le LAST_NUMBER c.args.x c.requires)
+    omega (arith, rw (to_z-of_z c.ranges.x) at c.unsigned_abs.ensures.value, up_to_le LAST_NUMBER c.args.x c.requires)
 
 pub returns : goal.returns
-returns c = rw (to_z-of_z c.ranges.x) at c.magnitude.ensures
+returns c = rw (to_z-of_z c.ranges.x) at c.unsigned_abs.ensures.value

@@ -27,10 +27,10 @@ pub loop-i-preserved : goal.loop-i-preserved
 loop-i-preserved c =
     let us = c.args.users.now in
     let v = c.loop-i in
-    let h : SFits w64 c.wide.result = search rules in
+    let h : SFits w64 c.from.result = search rules in
     let m = length-map us pos in (
       omega arith,
-      ap (λ z. set v.day (USERS_AT + v.i) z) (to_z-of_z h ∙ c.wide.ensures ∙ sym (get_or-map pos us v.i 0))
+      ap (λ z. set v.day (USERS_AT + v.i) z) (to_z-of_z h ∙ c.from.ensures ∙ sym (get_or-map pos us v.i 0))
           ∙ ap (λ t. set t (USERS_AT + v.i) (get_or (map pos us) v.i (pos 0))) v.invariant.1
           ∙ paste-suc c.args.day.now USERS_AT (map pos us) v.i (pos 0) (omega (arith, c.requires.0, c.requires.1)) (omega (arith, m))
           ∙ ap (paste c.args.day.now USERS_AT (map pos us)) (sym (add-one v.i)),

@@ -1,6 +1,6 @@
 use mathlib.Core.Path.{◌≡◌}
 use mathlib.Core.List.{map}
-use Prim.Native.Nat.{◌-◌, ◌≤◌}
+use Prim.Native.Nat.{◌≤◌}
 use lib.IntN.{pos}
 use lib.ListN.{length}
 use lib.Seq.{paste}
@@ -9,6 +9,3 @@ use Rattle.plain_day.proofs.writes.put_users.Given as goal
 
 abbrev pub invariant-loop-i : goal.invariant-loop-i
 invariant-loop-i l = (l.i ≤ length l.users) × (l.day ≡ paste l.initial.day USERS_AT (map pos l.users) l.i)
-
-abbrev pub decreases-loop-i : goal.decreases-loop-i
-decreases-loop-i l = length l.users - l.i

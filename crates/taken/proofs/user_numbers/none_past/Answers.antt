@@ -4,11 +4,8 @@ use Prim.Native.Nat.{◌<◌}
 use native.Mathlib.Omega.{arith}
 use lib.ListN.{length, get_or}
 use Rattle.numbers.proofs.Lists.{passed}
-use Rattle.numbers.proofs.Bits.{gather, none_gathered}
+use Rattle.numbers.proofs.Bits.{gather}
 use Rattle.taken.proofs.user_numbers.none_past.Goals as goal
-
-pub loop-i-init : goal.loop-i-init
-loop-i-init c = (omega arith, λ k m n. absurd (omega arith), record { each = λ l k m n. absurd (omega arith); back = λ p. omega arith })
 
 pub loop-i-preserved : goal.loop-i-preserved
 loop-i-preserved c =
@@ -21,8 +18,3 @@ loop-i-preserved c =
           (passed (λ k. get_or a.users.now k 0 ≡ 0) a.count i)
           (λ r. (λ k l m. r k l (omega arith), r i b.0 (omega arith))),
     )
-
-pub returns : goal.returns
-returns c =
-    let h = c.loop-i.invariant.2 in
-    none_gathered c.loop-i.bits record { each = λ l k m n. h.each l k m (omega arith); back = λ p. h.back (λ k m n. p k m (c.loop-i.invariant.1 k m n)) }

@@ -15,9 +15,6 @@ pub returns-then-user-eq0 : goal.returns-then-user-eq0
 returns-then-user-eq0 c =
     rw (scan_found 0 c.args.users.now c.loop-i.i c.args.count (omega arith) c.requires c.if-user-eq0.true)
 
-pub overflow_cast-bucket : goal.overflow_cast-bucket
-overflow_cast-bucket c = omega (arith, c.shared_slice_known-1.given c.loop-i.i)
-
 pub returns-then-stands_before : goal.returns-then-stands_before
 returns-then-stands_before c =
     let l = c.loop-i in
