@@ -110,7 +110,7 @@ pub fn read_rows(s: &[u8], from: Cursor) -> RowsRead
 // The measurement of a point-day that is loaded, and the place after it.
 #[derive(Clone, Copy)]
 struct MeasurementRead {
-    measurement: Measurement,
+    measurement: Option<Measurement>,
     next: Cursor,
 }
 
@@ -134,7 +134,7 @@ fn read_measurement(s: &[u8], from: Cursor) -> MeasurementRead
 pub struct Head {
     pub stage: Stage,
     pub allotted: bool,
-    pub measurement: Measurement,
+    pub measurement: Option<Measurement>,
     pub count: usize,
     pub next: Cursor,
 }

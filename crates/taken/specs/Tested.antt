@@ -14,6 +14,7 @@ use Rattle.numbers.specs.declared.Refusal.{Refusal}
 use Rattle.numbers.specs.declared.Refusal.TheVariants.{OutOfRange}
 use Rattle.taken.specs.declared.State.{State}
 use Rattle.taken.specs.declared.Tally.{Tally}
+use Rattle.std.specs.Prelude.{Option}
 
 -- s is what the test of the taken point-day d found: all that d holds but its amounts, and its users' whole amounts with their sum
 pub record Known (d : PointDay) (s : State) : Type 0 where
@@ -54,7 +55,7 @@ pub record Found (P : Type 0) (f : ℕ → ℤ) (n : ℕ) (before : List ℤ) (r
   pub wholes : r.right ≡ true → after ≡ table f n ++ drop n before
 
 -- number of users, user numbers and measurement
-pub record Head (m : Measurement) (n : ℕ) (us : List ℕ) : Type 0 where
+pub record Head (m : Option Measurement) (n : ℕ) (us : List ℕ) : Type 0 where
   pub few : n ≤ USERS
   pub past : (i : ℕ) → n ≤ i → i < length us → get_or us i 0 ≡ 0
   pub named : has 0 (take n us) ≡ false
@@ -96,7 +97,7 @@ pub record Ended (n : ℕ) (cs ls bs rs : List ℤ) : Type 0 where
   pub revision : From n (pos 0) (pos 0) rs
 
 -- once allotted: with user and measurement
-pub record Allotted (m : Measurement) (n : ℕ) (cs ls bs rs : List ℤ) : Type 0 where
+pub record Allotted (m : Option Measurement) (n : ℕ) (cs ls bs rs : List ℤ) : Type 0 where
   pub users : n ≡ 0 → ⊥
   pub measured : is_measured m ≡ true
   pub past : Ended n cs ls bs rs
