@@ -10,7 +10,8 @@ use Rattle.supply.specs.declared.Toll.{Toll}
 use Rattle.supply.specs.declared.Toll.TheVariants.{Toll34, OtherToll}
 use Rattle.supply.specs.declared.Flows.{Flows}
 use Rattle.history.specs.History.{ENTRIES, history_right}
-use Rattle.telemetered.specs.Telemetered.{Estimate, values_right, telemetered}
+use Rattle.telemetered.specs.declared.Estimate.{Estimate}
+use Rattle.telemetered.specs.Telemetered.{values_right, telemetered}
 use Rattle.history.specs.declared.Reading.{Reading}
 use Rattle.history.specs.declared.Reading.TheVariants.{Nothing, Real, Estimated, Own}
 use Rattle.history.specs.declared.Entry.{Entry}

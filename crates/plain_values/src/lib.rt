@@ -22,10 +22,9 @@ pub fn amount_in(list: &[u64]) -> Option<u64>
 fn toll_in(number: u8) -> Toll
     ensures { result ≡ toll_in number }
 {
-    if number == 1 {
-        Toll::Toll34
-    } else {
-        Toll::OtherToll
+    match number {
+        1 => Toll::Toll34,
+        _ => Toll::OtherToll,
     }
 }
 
@@ -52,26 +51,18 @@ pub fn flows_in(toll: u8, yearly: &[u64], daily: &[u64], factor: u32) -> Flows
     }
 }
 
-// The tag of a user's own value.
-const LAST_TAG: u8 = 3;
-
-// What a tag and a value stand for. (A tag without meaning is asked for first: what is left is then no branch.)
+// What a tag and a value stand for.
+#[tactic(auto, unfolding(crate::specs::Lists::reading_in))]
 fn reading_in(tag: u8, value: u64) -> Reading
     ensures { result ≡ reading_in tag value }
 {
-    if LAST_TAG < tag {
-        return Reading::Real(LIMIT + 1);
+    match tag {
+        0 => Reading::Nothing,
+        1 => Reading::Real(value),
+        2 => Reading::Estimated(value),
+        3 => Reading::Own(value),
+        _ => Reading::Real(LIMIT + 1),
     }
-    if tag == 0 {
-        return Reading::Nothing;
-    }
-    if tag == 1 {
-        return Reading::Real(value);
-    }
-    if tag == 2 {
-        return Reading::Estimated(value);
-    }
-    Reading::Own(value)
 }
 
 // The history that tags and values spell.
@@ -83,8 +74,9 @@ pub fn history_in(tags: &[u8], values: &[u64]) -> [Entry; ENTRIES]
         reading: Reading::Nothing,
     });
     for i in 0..tags.len() {
-        let reading = reading_in(tags[i], values[i]);
-        history[i] = Entry { reading };
+        history[i] = Entry {
+            reading: reading_in(tags[i], values[i]),
+        };
     }
     history
 }

@@ -6,13 +6,12 @@ use mathlib.Core.Logic.{⊎_elim}
 use Prim.Native.Nat.{ℕ, zero, suc, ◌≤◌, ◌<◌}
 use native.Mathlib.Omega.{arith}
 use lib.IntN.{ℤ, pos, negsuc, neg_ℤ, nat_abs, ◌+ℤ◌}
-use lib.Signed.{lt_z, le_z}
 use lib.ListN.{length, get_or-eq_default}
 use mir.Syntax.{w64}
 use mir.Val.{of_z, to_z, SFits}
-use borrow.Author.Tests.{eqb-true, eq-eqb, leb-true, leb-false, ltb-false, le-ltb}
+use borrow.Author.Tests.{eqb-true, eq-eqb, ltb-false, le-ltb}
 use Rattle.numbers.specs.Sums.{atZ}
-use Rattle.numbers.specs.Amounts.{Within, Between, Decides, is_negative}
+use Rattle.numbers.specs.Amounts.{Within, Between, is_negative}
 use Rattle.numbers.proofs.Sums.{lt_or_ge}
 use Rattle.numbers.proofs.Lists.{true≢false}
 use Rattle.numbers.proofs.Amounts.{between, back, sfits, widen, within_add, within_pos}
@@ -59,14 +58,6 @@ within_from m xs h k l i = record {
 
 pub low_from : (m : ℕ) (xs : List ℤ) → From 0 (pos 0) (pos m) xs → (k : ℕ) → m ≤ k → (i : ℕ) → Within k (atZ xs i)
 low_from m xs h k l i = within_from m xs (λ i n q. low_size m (atZ xs i) (h i n q)) k l i
-
--- an amount that is not negative is at most m
-pub at_most : (m : ℕ) (z : ℤ) → lt_z z (pos 0) ≡ false → Decides (le_z z (pos m)) (Between (pos 0) (pos m) z)
-at_most m (pos n) e = record {
-  yes = λ q. record { above = e; below = le-ltb m n (leb-true n m q) };
-  no = λ q P. omega (arith, leb-false n m q, ltb-false m n P.below);
-}
-at_most m (negsuc n) e = true≢false e
 
 -- ---- an amount added at a cell, in 64 bits
 

@@ -31,7 +31,7 @@ use Rattle.state.specs.Places.{From, ROOM, Small, Summable, Lengths, whole_at}
 use Rattle.state.proofs.Cells.{zero_between, between_zero, between_sign, low_size, nonneg_between, between_size, size_between, within_from, low_from}
 use Rattle.state.proofs.Totals.{kinds_long, offtake_is, whole_is, wholes_are}
 use Rattle.point_day.specs.Fields.{point_day}
-use Rattle.taken.specs.Tested.{Known, Finds, Wholes, any_large}
+use Rattle.taken.specs.Tested.{Known, Wholes, any_large}
 use Rattle.taken.specs.declared.State.{State}
 use Rattle.point_day.specs.declared.Stage.{Stage}
 use Rattle.std.specs.Prelude.{Option}

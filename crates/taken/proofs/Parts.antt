@@ -1,17 +1,16 @@
 -- The tests of a point-day's parts: what they find, and the point-days that are taken. Assumes nothing.
 use mathlib.Core.Path.{◌≡◌, refl, sym, ap, ap₂, ◌∙◌}
-use mathlib.Core.Bool.{Bool, true, false, not}
+use mathlib.Core.Bool.{true, false, not}
 use mathlib.Core.List.{List, [], ◌∷◌, ◌++◌}
 use mathlib.Core.Logic.{⊎_elim}
 use Prim.Native.Nat.{ℕ, zero, suc, ◌+◌, ◌*◌, ◌/◌, ◌%◌, ◌≤◌, ◌<◌}
 use native.Mathlib.Omega.{arith}
-use lib.Dec.{eqb, leb}
+use lib.Dec.{eqb}
 use lib.IntN.{ℤ, pos, negsuc, nat_abs, ◌+ℤ◌, +ℤ_idr}
 use lib.ListN.{length, get_or, drop, length-append, length-drop, get_or-append}
-use lib.Signed.{lt_z, le_z}
 use lib.Seq.{get_or-take, get_or-drop, drop_at}
 use mir.Syntax.{w64}
-use mir.Val.{of_z, to_z}
+use mir.Val.{of_z, to_z, SFits}
 use borrow.Author.Tests.{le-leb, leb-true, eqb-true, eq-eqb, ltb-false}
 use Rattle.numbers.specs.Sums.{sumZ, table, atZ, total}
 use Rattle.numbers.specs.Lists.{every}
@@ -19,7 +18,7 @@ use Rattle.numbers.specs.Amounts.{Within, Between, is_negative}
 use Rattle.numbers.proofs.Places.{at_every, from_every}
 use Rattle.numbers.proofs.Sums.{lt_or_ge, length_table, getD_table, sumZ_eq}
 use Rattle.numbers.proofs.Lists.{All, true≢false, both_fst, both_snd, both_true, all_every, every_all, all_map}
-use Rattle.numbers.proofs.Amounts.{back, widen, within_add}
+use Rattle.numbers.proofs.Amounts.{back, sfits, widen, within_add}
 use Rattle.point_day.specs.Limits.{USERS, CELLS, KINDS, LIMIT, AMOUNT}
 use Rattle.point_day.specs.Day.{User, offtake, all_offtake, whole, no_more, is_zero}
 use Rattle.point_day.specs.Struct.{Sized, kinds_of, user_at, read, none_past, none_below, unallotted, amounts_right, sum_right, taken}
@@ -27,49 +26,14 @@ use Rattle.point_day.specs.declared.Measurement.{Measurement}
 use Rattle.point_day.specs.declared.PointDay.{PointDay}
 use Rattle.point_day.proofs.Taken.{taken_facts, facts_taken}
 use Rattle.point_day.proofs.Sound.{Bare, bare_whole, bare_all}
-use Rattle.state.specs.Places.{From, ROOM, LOW, LowSlot, SizedSlot, cellZ, offtake_at, balance_at, whole_at}
-use Rattle.state.proofs.Cells.{zero_between, between_zero, between_sign, low_size, nonneg_between, between_size, at_most}
+use Rattle.state.specs.Places.{From, ROOM, LOW, SizedSlot, cellZ, offtake_at, balance_at, whole_at}
+use Rattle.state.proofs.Cells.{zero_between, between_zero, between_sign, low_size, nonneg_between, between_size}
 use Rattle.state.proofs.Lows.{user_balance_within}
 use Rattle.state.proofs.Totals.{kinds_long, whole_is, wholes_are, whole_parts, offtakes_are}
-use Rattle.taken.specs.declared.Tally.{Tally}
+use Rattle.std.specs.Prelude.{Option, None, Some}
 use Rattle.taken.specs.Tested.{TestedParts, Found, Head, Offtakes, Wholes, Balances, Entering, Allotted, added_at}
 use Rattle.taken.proofs.Facts.{wholes_of, Facts, all_users, some_users, numbers_are, bare, facts, untaken, taken_summable}
 use Rattle.std.specs.Prelude.{Option}
-
--- ---- answers
-
--- a test that fails, since P does not hold
-pub found_none : {P : Type 0} {f : ℕ → ℤ} {n : ℕ} {before after : List ℤ} {r : Tally} → r.right ≡ false → (P → ⊥) → Found P f n before r after
-found_none e h = record {
-  decides = record { yes = λ q. true≢false (sym q ∙ e); no = λ q p. h p };
-  sum = λ q. true≢false (sym q ∙ e);
-  wholes = λ q. true≢false (sym q ∙ e);
-}
-
--- a test of more: P is Q and what is known
-pub found_more : {P Q : Type 0} {f : ℕ → ℤ} {n : ℕ} {before after : List ℤ} {r : Tally} → (Q → P) → (P → Q) → Found Q f n before r after → Found P f n before r after
-found_more g h t = record {
-  decides = record { yes = λ q. g (t.decides.yes q); no = λ q p. t.decides.no q (h p) };
-  sum = t.sum;
-  wholes = t.wholes;
-}
-
--- ---- consumption and losses
-
--- the sum of k users is the sum of n users
-pub offtakes_back : (cs ls : List ℤ) (n : ℕ) {k : ℕ} {z : ℤ} → z ≡ sumZ (offtake_at cs ls) k → k ≡ n → z ≡ sumZ (offtake_at cs ls) n
-offtakes_back cs ls n e q = e ∙ ap (sumZ (offtake_at cs ls)) q
-
-pub offtakes_found : (cs ls : List ℤ) (n : ℕ) (before after : List ℤ) → ((s : ℕ) → s < n → LowSlot cs ls s) → (z : ℤ) → z ≡ sumZ (offtake_at cs ls) n → after ≡ table (offtake_at cs ls) n ++ drop n before
-    → Found (Offtakes n cs ls) (offtake_at cs ls) n before record { right = le_z z (pos LIMIT); sum = z } after
-offtakes_found cs ls n before after h z e w = record {
-  decides = record {
-    yes = λ q. record { low = h; limit = sym (ap (λ t. le_z t (pos LIMIT)) e) ∙ q };
-    no = λ q p. true≢false (sym p.limit ∙ sym (ap (λ t. le_z t (pos LIMIT)) e) ∙ q);
-  };
-  sum = λ q. e;
-  wholes = λ q. w;
-}
 
 -- ---- balances and revisions
 
@@ -86,35 +50,20 @@ module _ (ws bs rs : List ℤ) (s : ℕ) (h : Within (10 * ROOM) (atZ ws s)) (k 
   added_within : Within (16 * ROOM) (added_at ws bs rs s)
   added_within = widen (within_add h (user_balance_within bs rs s k)) (omega arith)
 
-  -- the slot as the code holds it, and its test
-  pub added_is : {x b y : ℤ} → x ≡ atZ ws s → b ≡ balance_at bs rs s → y ≡ to_z w64 (of_z w64 x) +ℤ to_z w64 (of_z w64 b) → y ≡ added_at ws bs rs s
-  added_is ex eb ey =
-      ey ∙ ap₂ ◌+ℤ◌ (ap (λ z. to_z w64 (of_z w64 z)) ex ∙ back h (omega arith)) (ap (λ z. to_z w64 (of_z w64 z)) eb ∙ back (user_balance_within bs rs s k) (omega arith))
+  -- the slot as the code holds it
+  module _ {x b : ℤ} (ex : x ≡ atZ ws s) (eb : b ≡ balance_at bs rs s) where
+    added_is : to_z w64 (of_z w64 x) +ℤ to_z w64 (of_z w64 b) ≡ added_at ws bs rs s
+    added_is =
+        ap₂ ◌+ℤ◌ (ap (λ z. to_z w64 (of_z w64 z)) ex ∙ back h (omega arith)) (ap (λ z. to_z w64 (of_z w64 z)) eb ∙ back (user_balance_within bs rs s k) (omega arith))
 
-  pub added_back : {y : ℤ} → y ≡ added_at ws bs rs s → to_z w64 (of_z w64 y) ≡ added_at ws bs rs s
-  added_back e = ap (λ z. to_z w64 (of_z w64 z)) e ∙ back added_within (omega arith)
+    pub added_fits : SFits w64 (to_z w64 (of_z w64 x) +ℤ to_z w64 (of_z w64 b))
+    added_fits = rw added_is (sfits added_within (omega arith))
 
-  pub added_test : {y : ℤ} {r : Bool} → y ≡ added_at ws bs rs s → r ≡ leb (nat_abs (to_z w64 (of_z w64 y))) AMOUNT → r ≡ leb (nat_abs (added_at ws bs rs s)) AMOUNT
-  added_test e q = q ∙ ap (λ z. leb (nat_abs z) AMOUNT) (added_back e)
+    pub added_back : to_z w64 (of_z w64 (to_z w64 (of_z w64 x) +ℤ to_z w64 (of_z w64 b))) ≡ added_at ws bs rs s
+    added_back = rw added_is (back added_within (omega arith))
 
-module _ (ws bs rs : List ℤ) (n : ℕ) where
-  -- the sum of k users is the sum of n users
-  pub balances_back : {k : ℕ} {z : ℤ} → z ≡ sumZ (added_at ws bs rs) k → k ≡ n → z ≡ sumZ (added_at ws bs rs) n
-  balances_back e q = e ∙ ap (sumZ (added_at ws bs rs)) q
-
-  pub balances_below : (z : ℤ) → z ≡ sumZ (added_at ws bs rs) n → lt_z z (pos 0) ≡ true → Balances n ws bs rs → ⊥
-  balances_below z e q p = true≢false (sym (ap (λ t. lt_z t (pos 0)) (sym e) ∙ q) ∙ p.wholes.sum.above)
-
-  pub balances_found : {after : List ℤ} → ((s : ℕ) → s < n → Added ws bs rs s) → (z : ℤ) → z ≡ sumZ (added_at ws bs rs) n → lt_z z (pos 0) ≡ false → after ≡ table (added_at ws bs rs) n ++ drop n ws
-      → Found (Balances n ws bs rs) (added_at ws bs rs) n ws record { right = le_z z (pos LIMIT); sum = z } after
-  balances_found h z e q w = record {
-    decides = record {
-      yes = λ t. record { sizes = λ s l. (h s l).0; wholes = record { each = λ s l. (h s l).1.size; sum = rw e at ((at_most LIMIT z q).yes t) } };
-      no = λ t p. (at_most LIMIT z q).no t (rw e p.wholes.sum);
-    };
-    sum = λ t. e;
-    wholes = λ t. w;
-  }
+    pub added_bits : of_z w64 (to_z w64 (of_z w64 x) +ℤ to_z w64 (of_z w64 b)) ≡ of_z w64 (added_at ws bs rs s)
+    added_bits = ap (of_z w64) added_is
 
 pub column_long : (cs ls : List ℤ) (n : ℕ) (before ws : List ℤ) → ws ≡ table (offtake_at cs ls) n ++ drop n before → n ≤ length before → length ws ≡ length before
 column_long cs ls n before ws e l =
@@ -132,18 +81,16 @@ module _ (cs ls bs rs : List ℤ) (n : ℕ) (before ws : List ℤ) (e : ws ≡ t
   column_rest : drop n ws ≡ drop n before
   column_rest = ap (drop n) e ∙ drop_at (table (offtake_at cs ls) n) (drop n before) n (length_table (offtake_at cs ls) n)
 
-  pub allotted_found : {P : Type 0} {r : Tally} {after : List ℤ} → (((s : ℕ) → s < n → SizedSlot bs rs s) → Wholes n (whole_at cs ls bs rs) → P) → (P → ((s : ℕ) → s < n → SizedSlot bs rs s) × Wholes n (whole_at cs ls bs rs))
+  pub allotted_found : {P : Type 0} (r : Option ℤ) (after : List ℤ) → (((s : ℕ) → s < n → SizedSlot bs rs s) → Wholes n (whole_at cs ls bs rs) → P) → (P → ((s : ℕ) → s < n → SizedSlot bs rs s) × Wholes n (whole_at cs ls bs rs))
       → Found (Balances n ws bs rs) (added_at ws bs rs) n ws r after → Found P (whole_at cs ls bs rs) n before r after
-  allotted_found g h t =
+  allotted_found None after g h t =
       let q : sumZ (added_at ws bs rs) n ≡ sumZ (whole_at cs ls bs rs) n = sumZ_eq (added_at ws bs rs) (whole_at cs ls bs rs) n added_whole in
-      record {
-        decides = record {
-          yes = λ y. let b = t.decides.yes y in g b.sizes record { each = λ s l. rw (added_whole s l) at (b.wholes.each s l); sum = rw q at b.wholes.sum };
-          no = λ y p. t.decides.no y record { sizes = (h p).0; wholes = record { each = λ s l. rw (added_whole s l) ((h p).1.each s l); sum = rw q (h p).1.sum } };
-        };
-        sum = λ y. t.sum y ∙ q;
-        wholes = λ y. t.wholes y ∙ ap₂ ◌++◌ (same_table (added_at ws bs rs) (whole_at cs ls bs rs) n added_whole) column_rest;
-      }
+      λ p. t record { sizes = (h p).0; wholes = record { each = λ s l. rw (added_whole s l) ((h p).1.each s l); sum = rw q (h p).1.sum } }
+  allotted_found (Some z) after g h t =
+      let q : sumZ (added_at ws bs rs) n ≡ sumZ (whole_at cs ls bs rs) n = sumZ_eq (added_at ws bs rs) (whole_at cs ls bs rs) n added_whole in (
+        g t.0.sizes record { each = λ s l. rw (added_whole s l) at (t.0.wholes.each s l); sum = rw q at t.0.wholes.sum },
+        record { sum = t.1.sum ∙ q; wholes = t.1.wholes ∙ ap₂ ◌++◌ (same_table (added_at ws bs rs) (whole_at cs ls bs rs) n added_whole) column_rest },
+      )
 
 -- ---- consumption and losses of a point-day
 
@@ -351,24 +298,15 @@ module _ (d : PointDay) (z : Sized d) (e : d.allotted ≡ false) where
 
 -- ---- the whole test
 
-pub parts_none : (d : PointDay) → Sized d → {before after : List ℤ} {r : Tally} → r.right ≡ false → (Facts d → ⊥) → TestedParts d before r after
-parts_none d z e h = record {
-  is = e ∙ untaken d (λ q. h (facts d z q));
-  sum = λ q. true≢false (sym q ∙ e);
-  wholes = λ q. true≢false (sym q ∙ e);
-}
+pub parts_none : (d : PointDay) → Sized d → (Facts d → ⊥) → taken d ≡ false
+parts_none d z h = sym (untaken d (λ q. h (facts d z q)))
 
-pub parts_found : (d : PointDay) → Sized d → {P : Type 0} {f : ℕ → ℤ} {before after : List ℤ} {r : Tally} → Found P f d.count before r after → (P → taken d ≡ true) → (taken d ≡ true → P) → (P → (s : ℕ) → s < d.count → f s ≡ wholes_of d s)
+pub parts_found : (d : PointDay) → Sized d → {P : Type 0} {f : ℕ → ℤ} (before : List ℤ) (r : Option ℤ) (after : List ℤ) → Found P f d.count before r after → (P → taken d ≡ true) → (taken d ≡ true → P) → (P → (s : ℕ) → s < d.count → f s ≡ wholes_of d s)
     → TestedParts d before r after
-parts_found d z {P} {f} {before} {after} {r} t g h q = record {
-  is = go r.right refl;
-  sum = λ e.
-      let p = t.decides.yes e in
-      let l = taken_summable d z (g p) in
-      t.sum e ∙ sumZ_eq f (wholes_of d) d.count (q p) ∙ sym (wholes_are d z l.above l.above_losses l.few);
-  wholes = λ e. t.wholes e ∙ ap (λ x. x ++ drop d.count before) (same_table f (wholes_of d) d.count (q (t.decides.yes e)));
-}
-  where
-    go : (p : Bool) → r.right ≡ p → p ≡ taken d
-    go true e = sym (g (t.decides.yes e))
-    go false e = untaken d (λ q. t.decides.no e (h q))
+parts_found d z before None after t g h q = sym (untaken d (λ e. t (h e)))
+parts_found d z {f = f} before (Some x) after t g h q =
+    let l = taken_summable d z (g t.0) in (
+      g t.0,
+      t.1.sum ∙ sumZ_eq f (wholes_of d) d.count (q t.0) ∙ sym (wholes_are d z l.above l.above_losses l.few),
+      t.1.wholes ∙ ap (λ x. x ++ drop d.count before) (same_table f (wholes_of d) d.count (q t.0)),
+    )

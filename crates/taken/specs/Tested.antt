@@ -1,9 +1,9 @@
 -- What the test of a point-day finds. Assumes nothing. No exported contract leans on it.
-use Rattle.std.specs.Prelude.{Result, Ok, Err, Bool, true, false, not, List, ◌++◌, ◌≡◌, ℕ, ◌*◌, ◌≤◌, ◌<◌, ℤ, pos, nat_abs, ◌+ℤ◌, length, take, drop, get_or}
+use Rattle.std.specs.Prelude.{Option, None, Some as Just, Result, Ok, Err, Bool, true, false, not, List, ◌++◌, ◌≡◌, ℕ, ◌*◌, ◌≤◌, ◌<◌, ℤ, pos, nat_abs, ◌+ℤ◌, length, take, drop, get_or}
 use Rattle.std.specs.Int.Signed.{le_z}
 use Rattle.numbers.specs.Sums.{sumZ, table, atZ}
 use Rattle.numbers.specs.Lists.{every, has, distinct}
-use Rattle.numbers.specs.Amounts.{Between, Decides}
+use Rattle.numbers.specs.Amounts.{Between}
 use Rattle.point_day.specs.Limits.{USERS, KINDS, LIMIT, AMOUNT}
 use Rattle.point_day.specs.Day.{all_whole, is_measured, no_more, measurement_right}
 use Rattle.point_day.specs.Struct.{Sized, read, taken}
@@ -13,8 +13,6 @@ use Rattle.state.specs.Places.{From, LowSlot, SizedSlot, offtake_at, balance_at,
 use Rattle.numbers.specs.declared.Refusal.{Refusal}
 use Rattle.numbers.specs.declared.Refusal.TheVariants.{OutOfRange}
 use Rattle.taken.specs.declared.State.{State}
-use Rattle.taken.specs.declared.Tally.{Tally}
-use Rattle.std.specs.Prelude.{Option}
 
 -- s is what the test of the taken point-day d found: all that d holds but its amounts, and its users' whole amounts with their sum
 pub record Known (d : PointDay) (s : State) : Type 0 where
@@ -42,17 +40,20 @@ pub record Some (P : PointDay → Type 0) : Type 0 where
   pub day : PointDay
   pub holds : P day
 
--- the test r of the parts of d: whether it is taken; if so, the sum of its whole amounts, and the column that held `before` starts with them
-pub record TestedParts (d : PointDay) (before : List ℤ) (r : Tally) (after : List ℤ) : Type 0 where
-  pub is : r.right ≡ taken d
-  pub sum : r.right ≡ true → r.sum ≡ all_whole (read d).users
-  pub wholes : r.right ≡ true → after ≡ table (whole_at d.consumption d.losses d.balance d.revision) d.count ++ drop d.count before
+-- z is the sum of n whole amounts f, and the column that held `before` starts with them
+pub record Column (f : ℕ → ℤ) (n : ℕ) (before : List ℤ) (z : ℤ) (after : List ℤ) : Type 0 where
+  pub sum : z ≡ sumZ f n
+  pub wholes : after ≡ table f n ++ drop n before
 
--- a test that decides P; if P holds, the sum of n whole amounts f, and the column starts with them
-pub record Found (P : Type 0) (f : ℕ → ℤ) (n : ℕ) (before : List ℤ) (r : Tally) (after : List ℤ) : Type 0 where
-  pub decides : Decides r.right P
-  pub sum : r.right ≡ true → r.sum ≡ sumZ f n
-  pub wholes : r.right ≡ true → after ≡ table f n ++ drop n before
+-- a test that finds a sum if P holds, and the column with it; else nothing
+abbrev pub Found : Type 0 → (ℕ → ℤ) → ℕ → List ℤ → Option ℤ → List ℤ → Type 0
+Found P f n before None after = P → ⊥
+Found P f n before (Just z) after = P × Column f n before z after
+
+-- the test of the parts of d: if it is taken, the sum of its whole amounts, and the column that held `before` starts with them
+abbrev pub TestedParts : PointDay → List ℤ → Option ℤ → List ℤ → Type 0
+TestedParts d before None after = taken d ≡ false
+TestedParts d before (Just z) after = (taken d ≡ true) × (z ≡ all_whole (read d).users) × (after ≡ table (whole_at d.consumption d.losses d.balance d.revision) d.count ++ drop d.count before)
 
 -- number of users, user numbers and measurement
 pub record Head (m : Option Measurement) (n : ℕ) (us : List ℕ) : Type 0 where

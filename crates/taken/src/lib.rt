@@ -3,7 +3,7 @@
 
 pub mod user_numbers;
 
-ghost use Rattle.std.specs.Prelude.{◌≡◌, false, ℕ, ◌*◌, ◌≤◌, ◌<◌, length};
+ghost use Rattle.std.specs.Prelude.{◌≡◌, ℕ, ◌*◌, ◌≤◌, ◌<◌, length};
 ghost use Rattle.numbers.specs.Sums.{atZ};
 ghost use Rattle.numbers.specs.Amounts.{Within, Decides};
 ghost use Rattle.point_day.specs.Limits.{USERS, CELLS};
@@ -33,38 +33,15 @@ fn measurement_right(measurement: Option<Measurement>) -> bool
     }
 }
 
-// What a test of amounts finds: whether they are right, and if so the sum of the whole amounts.
-#[derive(Clone, Copy)]
-struct Tally {
-    right: bool,
-    sum: i64,
-}
-
-// Not right.
-fn wrong() -> Tally
-    ensures { result.right ≡ false }
-{
-    Tally {
-        right: false,
-        sum: 0,
-    }
-}
-
 // Whether the number of users, the user numbers and the measurement are right.
 fn head_right(measurement: Option<Measurement>, n: usize, users: &[u16]) -> bool
     requires { length users.now ≡ USERS }
     ensures { Decides result (Head measurement n users.now) }
 {
-    if USERS < n {
-        return false;
-    }
-    if !user_numbers::none_past(users, n) {
-        return false;
-    }
-    if !user_numbers::numbers_right(users, n) {
-        return false;
-    }
-    measurement_right(measurement)
+    n <= USERS
+        && user_numbers::none_past(users, n)
+        && user_numbers::numbers_right(users, n)
+        && measurement_right(measurement)
 }
 
 // Whether the consumption and losses of each of n users are low.
@@ -81,7 +58,7 @@ fn all_low(consumption: &[i64], losses: &[i64], n: usize) -> bool
 }
 
 // Consumption and losses of n users, all low, into a column.
-fn add_offtakes(consumption: &[i64], losses: &[i64], n: usize, wholes: &mut [i64]) -> Tally
+fn add_offtakes(consumption: &[i64], losses: &[i64], n: usize, wholes: &mut [i64]) -> Option<i64>
     requires { (n ≤ USERS) × (length consumption.now ≡ CELLS) × (length losses.now ≡ CELLS) × (length wholes.old ≡ USERS) × ((s : ℕ) → s < n → LowSlot consumption.now losses.now s) }
     ensures { Found (Offtakes n consumption.now losses.now) (offtake_at consumption.now losses.now) n wholes.old result wholes.new }
 {
@@ -91,20 +68,17 @@ fn add_offtakes(consumption: &[i64], losses: &[i64], n: usize, wholes: &mut [i64
         wholes[s] = offtake;
         sum += offtake;
     }
-    Tally {
-        right: sum <= SUM,
-        sum,
-    }
+    if sum <= SUM { Some(sum) } else { None }
 }
 
 // Consumption and losses of n users: each is tested before it is added, so that nothing overflows on any values. (Two passes, of which each
 // needs fewer registers, are faster than one.)
-fn offtakes_test(consumption: &[i64], losses: &[i64], n: usize, wholes: &mut [i64]) -> Tally
+fn offtakes_test(consumption: &[i64], losses: &[i64], n: usize, wholes: &mut [i64]) -> Option<i64>
     requires { (n ≤ USERS) × (length consumption.now ≡ CELLS) × (length losses.now ≡ CELLS) × (length wholes.old ≡ USERS) }
     ensures { Found (Offtakes n consumption.now losses.now) (offtake_at consumption.now losses.now) n wholes.old result wholes.new }
 {
     if !all_low(consumption, losses, n) {
-        return wrong();
+        return None;
     }
     add_offtakes(consumption, losses, n, wholes)
 }
@@ -117,21 +91,21 @@ fn entering_test(
     balance: &[i64],
     revision: &[i64],
     wholes: &mut [i64],
-) -> Tally
+) -> Option<i64>
     requires { (n ≤ USERS) × Lengths consumption.now losses.now balance.now revision.now × (length wholes.old ≡ USERS) }
     ensures { Found (Entering n consumption.now losses.now balance.now revision.now) (offtake_at consumption.now losses.now) n wholes.old result wholes.new }
 {
     if !numbers::all_zero(balance, 0) {
-        return wrong();
+        return None;
     }
     if !numbers::all_zero(revision, 0) {
-        return wrong();
+        return None;
     }
     if !numbers::all_zero(consumption, KINDS * n) {
-        return wrong();
+        return None;
     }
     if !numbers::all_zero(losses, KINDS * n) {
-        return wrong();
+        return None;
     }
     offtakes_test(consumption, losses, n, wholes)
 }
@@ -150,35 +124,33 @@ fn all_sized(balance: &[i64], revision: &[i64], n: usize) -> bool
 }
 
 // Balances and revisions of n users, all in range, added to a column of consumption and losses.
-fn add_balances(balance: &[i64], revision: &[i64], n: usize, wholes: &mut [i64]) -> Tally
+fn add_balances(balance: &[i64], revision: &[i64], n: usize, wholes: &mut [i64]) -> Option<i64>
     requires { (n ≤ USERS) × (length balance.now ≡ CELLS) × (length revision.now ≡ USERS) × (length wholes.old ≡ USERS) × ((s : ℕ) → s < n → Within (10 * ROOM) (atZ wholes.old s)) × ((s : ℕ) → s < n → SizedSlot balance.now revision.now s) }
     ensures { Found (Balances n wholes.old balance.now revision.now) (added_at wholes.old balance.now revision.now) n wholes.old result wholes.new }
 {
     let mut sum: i64 = 0;
     for s in 0..n {
-        let whole = numbers::plus(wholes[s], state::user_balance(balance, revision, s));
-        if !numbers::size_at_most(whole, AMOUNT) {
-            return wrong();
+        let whole = wholes[s] + state::user_balance(balance, revision, s);
+        if AMOUNT < whole.unsigned_abs() {
+            return None;
         }
         wholes[s] = whole;
         sum += whole;
     }
-    if sum < 0 {
-        return wrong();
-    }
-    Tally {
-        right: sum <= SUM,
-        sum,
+    if 0 <= sum && sum <= SUM {
+        Some(sum)
+    } else {
+        None
     }
 }
 
 // Balances and revisions of n users, added to a column of consumption and losses: each is tested before it is added.
-fn balances_test(balance: &[i64], revision: &[i64], n: usize, wholes: &mut [i64]) -> Tally
+fn balances_test(balance: &[i64], revision: &[i64], n: usize, wholes: &mut [i64]) -> Option<i64>
     requires { (n ≤ USERS) × (length balance.now ≡ CELLS) × (length revision.now ≡ USERS) × (length wholes.old ≡ USERS) × ((s : ℕ) → s < n → Within (10 * ROOM) (atZ wholes.old s)) }
     ensures { Found (Balances n wholes.old balance.now revision.now) (added_at wholes.old balance.now revision.now) n wholes.old result wholes.new }
 {
     if !all_sized(balance, revision, n) {
-        return wrong();
+        return None;
     }
     add_balances(balance, revision, n, wholes)
 }
@@ -194,16 +166,10 @@ fn none_past(
     requires { n ≤ USERS }
     ensures { Decides result (Ended n consumption.now losses.now balance.now revision.now) }
 {
-    if !numbers::all_zero(consumption, KINDS * n) {
-        return false;
-    }
-    if !numbers::all_zero(losses, KINDS * n) {
-        return false;
-    }
-    if !numbers::all_zero(balance, KINDS * n) {
-        return false;
-    }
-    numbers::all_zero(revision, n)
+    numbers::all_zero(consumption, KINDS * n)
+        && numbers::all_zero(losses, KINDS * n)
+        && numbers::all_zero(balance, KINDS * n)
+        && numbers::all_zero(revision, n)
 }
 
 // The amounts of n users once allotted: whole amounts are consumption and losses, and then balances and revision.
@@ -215,23 +181,20 @@ fn allotted_test(
     balance: &[i64],
     revision: &[i64],
     wholes: &mut [i64],
-) -> Tally
+) -> Option<i64>
     requires { (n ≤ USERS) × Lengths consumption.now losses.now balance.now revision.now × (length wholes.old ≡ USERS) }
     ensures { Found (Allotted measurement n consumption.now losses.now balance.now revision.now) (whole_at consumption.now losses.now balance.now revision.now) n wholes.old result wholes.new }
 {
     if n == 0 {
-        return wrong();
+        return None;
     }
     if !state::is_measured(measurement) {
-        return wrong();
+        return None;
     }
     if !none_past(consumption, losses, balance, revision, n) {
-        return wrong();
+        return None;
     }
-    let offtakes = offtakes_test(consumption, losses, n, wholes);
-    if !offtakes.right {
-        return wrong();
-    }
+    offtakes_test(consumption, losses, n, wholes)?;
     balances_test(balance, revision, n, wholes)
 }
 
@@ -246,12 +209,12 @@ fn parts_test(
     balance: &[i64],
     revision: &[i64],
     wholes: &mut [i64],
-) -> Tally
+) -> Option<i64>
     requires { (length users.now ≡ USERS) × Lengths consumption.now losses.now balance.now revision.now × (length wholes.old ≡ USERS) }
     ensures { (stage : Stage) → TestedParts (point_day stage allotted measurement n users.now consumption.now losses.now balance.now revision.now) wholes.old result wholes.new }
 {
     if !head_right(measurement, n, users) {
-        return wrong();
+        return None;
     }
     if allotted {
         return allotted_test(
@@ -295,7 +258,7 @@ pub fn test_state(
     ensures { StateOf (point_day stage allotted measurement count users consumption.now losses.now balance.now revision.now) result }
 {
     let mut wholes = numbers::repeat::<_, USERS>(0);
-    let tally = parts_test(
+    let Some(sum) = parts_test(
         allotted,
         measurement,
         count,
@@ -305,10 +268,9 @@ pub fn test_state(
         &balance[..CELLS],
         &revision[..USERS],
         &mut wholes,
-    );
-    if !tally.right {
+    ) else {
         return Err(Refusal::OutOfRange);
-    }
+    };
     Ok(State {
         stage,
         allotted,
@@ -316,7 +278,7 @@ pub fn test_state(
         count,
         users,
         wholes,
-        sum: tally.sum,
+        sum,
     })
 }
 

@@ -11,8 +11,11 @@ use supply::THOUSAND;
 use temperature::Fraction;
 
 // C_d: a part of C_m over a divisor, rounded once.
+#[tactic(auto, unfolding(crate::specs::DayShare::day_of))]
 pub fn day_of_month(basis: Option<Fraction>, part: u64, divisor: u64) -> Result<u64, Refusal>
-    requires { SmallBasis basis × (part ≤ THOUSAND) × (1 ≤ divisor) × (divisor ≤ MOST_DIVISOR) }
+    requires basis_small { SmallBasis basis }
+    requires part_small { part ≤ THOUSAND }
+    requires divisor_in_range { (1 ≤ divisor) × (divisor ≤ MOST_DIVISOR) }
     ensures { answer_of result ≡ day_of basis part divisor }
 {
     let m = basis.ok_or(Refusal::NoBasis)?;

@@ -51,12 +51,14 @@ fn are_amounts(one: Option<u64>, two: Option<u64>, three: Option<u64>) -> bool
 }
 
 // Whether there are as many degree days as the same month a year earlier has days, each in its range.
+#[tactic(auto, using(months::proofs::Months::month_holds), unfolding(crate::specs::Type1::last_days_right))]
 fn are_last_days(day: u32, last_days: &[u32]) -> bool
     requires { day ≤ LAST_DAY }
     ensures { result ≡ last_days_right day last_days.now }
 {
     let month = months::month_of_day(day);
-    last_days.len() == months::days_last_year(month) as usize && temperature::are_all_degrees(last_days)
+    last_days.len() == months::days_last_year(month) as usize
+        && temperature::are_all_degrees(last_days)
 }
 
 // Whether the coefficients of the other tolls are in their ranges.
@@ -68,8 +70,9 @@ fn are_coefficients(c_c: u32, f_c: u32, c_f: u32) -> bool
 
 impl Toll34<'_> {
     // Whether everything that is given is in its range.
-    fn is_right(self) -> bool
-        ensures { result ≡ toll_34_right self.day self.last_year self.g self.last_days.now self.last_month self.year_flow }
+    #[tactic(auto, unfolding(crate::specs::Type1::toll_34_right))]
+    fn is_right(&self) -> bool
+        ensures { result ≡ toll_34_right self.now.day self.now.last_year self.now.g self.now.last_days.now self.now.last_month self.now.year_flow }
     {
         calendar::is_gas_day(self.day)
             && are_amounts(self.last_year, self.last_month, self.year_flow)
@@ -79,8 +82,9 @@ impl Toll34<'_> {
 }
 
 // The consumption of a Type 1 point of toll 3.4 on a gas day with g degree days.
-pub fn toll_34(point: Toll34) -> Result<u64, Refusal>
-    ensures { answer_of result ≡ toll_34 point.day point.last_year point.g point.last_days.now point.last_month point.year_flow }
+#[tactic(auto, using(crate::proofs::Tolls::for_34), unfolding(crate::specs::Type1::toll_34, crate::specs::Type1::toll_34_right, calendar::specs::Answers::tested))]
+pub fn toll_34(point: &Toll34) -> Result<u64, Refusal>
+    ensures { answer_of result ≡ toll_34 point.now.day point.now.last_year point.now.g point.now.last_days.now point.now.last_month point.now.year_flow }
 {
     if !point.is_right() {
         return Err(Refusal::OutOfRange);
@@ -88,15 +92,19 @@ pub fn toll_34(point: Toll34) -> Result<u64, Refusal>
     let mean = temperature::mean_of(point.last_days);
     let correction = temperature::correction_of(point.g, mean);
     let basis = month_consumption::month_of_34(
-        point.last_year, correction, point.last_month, point.year_flow,
+        point.last_year,
+        correction,
+        point.last_month,
+        point.year_flow,
     );
     let month = months::month_of_day(point.day);
     day_share::day_of_month(basis, 1, month.days as u64)
 }
 
 // The consumption of a Type 1 point of another toll on a gas day.
-pub fn other_toll(point: OtherToll) -> Result<u64, Refusal>
-    ensures { answer_of result ≡ other_toll point.day point.holidays.now point.last_year point.c_c point.last_month point.day_flow point.f_c point.c_f }
+#[tactic(auto, using(crate::proofs::Tolls::for_other), unfolding(crate::specs::Type1::other_toll, crate::specs::Type1::other_right, calendar::specs::Answers::tested, calendar::specs::DayTypes::is_working, months::specs::WorkingDays::N_res))]
+pub fn other_toll(point: &OtherToll) -> Result<u64, Refusal>
+    ensures { answer_of result ≡ other_toll point.now.day point.now.holidays.now point.now.last_year point.now.c_c point.now.last_month point.now.day_flow point.now.f_c point.now.c_f }
 {
     let calendar = Calendar::of(point.day, point.holidays)?;
     if !are_amounts(point.last_year, point.last_month, point.day_flow)
@@ -106,10 +114,19 @@ pub fn other_toll(point: OtherToll) -> Result<u64, Refusal>
     }
     let month = months::month_of_day(point.day);
     let basis = month_consumption::month_of_other(
-        point.last_year, point.c_c, point.last_month, point.day_flow, point.f_c, month.days,
+        point.last_year,
+        point.c_c,
+        point.last_month,
+        point.day_flow,
+        point.f_c,
+        month.days,
     );
     let working = calendar.day_type().is_working();
     let lab = months::working_days(month, &calendar);
     let days = day_share::days_for(working, month.days, lab);
-    day_share::day_of_month(basis, day_share::part_for(working, point.c_f), THOUSAND * days)
+    day_share::day_of_month(
+        basis,
+        day_share::part_for(working, point.c_f),
+        THOUSAND * days,
+    )
 }

@@ -14,6 +14,7 @@ const MONTHS_OF_A_YEAR: u64 = 12;
 const TEN_THOUSAND: u64 = 10000;
 
 // C_m of toll 3.4: last year's month corrected, or the last month, or a twelfth of the yearly flow.
+#[tactic(auto, unfolding(crate::specs::MonthConsumption::month_34))]
 pub fn month_of_34(
     last_year: Option<u64>,
     correction: Fraction,
@@ -38,6 +39,7 @@ pub fn month_of_34(
 }
 
 // C_m of the other tolls: last year's month times C_c, or the last month, or the daily flow for the month's days.
+#[tactic(auto, unfolding(crate::specs::MonthConsumption::month_other))]
 pub fn month_of_other(
     last_year: Option<u64>,
     c_c: u32,

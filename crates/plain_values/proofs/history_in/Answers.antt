@@ -15,7 +15,7 @@ loop-i-init c = (omega arith, fill_none _ _)
 
 pub loop-i-preserved : goal.loop-i-preserved
 loop-i-preserved c =
-    let h = c.no_entries-history.result in
+    let h = c.repeat-history.result in
     let full : length h ≡ 400 = search rules in
     (omega arith, fill_step c.loop-i.invariant.1 (omega (arith, full)) (ap (λ r. record { reading = r }) c.reading_in.ensures))
 

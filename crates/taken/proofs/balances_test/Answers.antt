@@ -1,8 +1,8 @@
 -- `taken::balances_test` meets its contract: sizes first, then the column. Assumes nothing.
-use borrow.Author.Tests.{not-false}
+use borrow.Author.Rules.{rules}
 use Rattle.taken.proofs.balances_test.Goals as goal
 
 pub add_balances-requires : goal.add_balances-requires
 add_balances-requires c =
     let p = c.requires in
-    (p.0, p.1, p.2, p.3, p.4, c.all_sized.ensures.yes (not-false _ c.if-not-all_sized.false-raw))
+    (p.0, p.1, p.2, p.3, p.4, c.all_sized.ensures.yes (search rules))

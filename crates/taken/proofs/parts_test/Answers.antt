@@ -1,6 +1,6 @@
 -- `taken::parts_test` meets its contract. Assumes nothing.
 use mathlib.Core.Path.{refl}
-use borrow.Author.Tests.{not-true, not-false}
+use borrow.Author.Rules.{rules}
 use Rattle.point_day.specs.Fields.{point_day}
 use Rattle.taken.proofs.Facts.{parts_sized}
 use Rattle.taken.proofs.Parts.{head_of, taken_allotted, allotted_of, bare_whole_at, taken_entering, entering_of, parts_none, parts_found}
@@ -11,22 +11,22 @@ returns-then-not-head_right c stage =
     let a = c.args in
     let d = point_day stage a.allotted a.measurement a.n a.users.now a.consumption.now a.losses.now a.balance.now a.revision.now in
     let z = parts_sized stage c.requires.0 c.requires.1 in
-    parts_none d z c.wrong.ensures (λ F. c.head_right.ensures.no (not-true _ c.if-not-head_right.true-raw) (head_of d z F))
+    parts_none d z (λ F. c.head_right.ensures.no (search rules) (head_of d z F))
 
 pub returns-then-allotted : goal.returns-then-allotted
 returns-then-allotted c stage =
     let a = c.args in
     let d = point_day stage a.allotted a.measurement a.n a.users.now a.consumption.now a.losses.now a.balance.now a.revision.now in
     let z = parts_sized stage c.requires.0 c.requires.1 in
-    let h = c.head_right.ensures.yes (not-false _ c.if-not-head_right.false-raw) in
+    let h = c.head_right.ensures.yes (search rules) in
     let e = c.if-allotted.true in
-    parts_found d z c.allotted_test.ensures (taken_allotted d z e h) (allotted_of d z e) (λ p s l. refl)
+    parts_found d z _ _ _ c.allotted_test.ensures (taken_allotted d z e h) (allotted_of d z e) (λ p s l. refl)
 
 pub returns : goal.returns
 returns c stage =
     let a = c.args in
     let d = point_day stage a.allotted a.measurement a.n a.users.now a.consumption.now a.losses.now a.balance.now a.revision.now in
     let z = parts_sized stage c.requires.0 c.requires.1 in
-    let h = c.head_right.ensures.yes (not-false _ c.if-not-head_right.false-raw) in
+    let h = c.head_right.ensures.yes (search rules) in
     let e = c.if-allotted.false in
-    parts_found d z c.entering_test.ensures (taken_entering d z e h) (entering_of d z e) (λ p s l. bare_whole_at d z h.few p.balance p.revision s l)
+    parts_found d z _ _ _ c.entering_test.ensures (taken_entering d z e h) (entering_of d z e) (λ p s l. bare_whole_at d z h.few p.balance p.revision s l)

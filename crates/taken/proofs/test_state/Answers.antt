@@ -1,6 +1,5 @@
 -- `taken::test_state` meets its contract: the first elements are all. Assumes nothing.
-use mathlib.Core.Bool.{true, false}
-use mathlib.Core.Path.{◌≡◌, refl, sym, ◌∙◌}
+use mathlib.Core.Path.{◌≡◌, refl, sym}
 use native.Mathlib.Omega.{arith}
 use borrow.Author.Rules.{rules}
 use lib.ListN.{length}
@@ -25,8 +24,8 @@ pub slice_bounds-parts_test-end-5 : goal.slice_bounds-parts_test-end-5
 slice_bounds-parts_test-end-5 c =
     sym (length-take-le USERS c.args.revision.now (omega (arith, c.requires.revision)))
 
-pub parts_test-tally-requires : goal.parts_test-tally-requires
-parts_test-tally-requires c =
+pub parts_test-requires : goal.parts_test-requires
+parts_test-requires c =
     let a = c.args in (
       search rules,
       record {
@@ -38,16 +37,14 @@ parts_test-tally-requires c =
       search rules,
     )
 
-pub returns-then-not-tally : goal.returns-then-not-tally
-returns-then-not-tally c =
+pub returns-in_default : goal.returns-in_default
+returns-in_default c =
     let a = c.args in
     let cs = take_all CELLS a.consumption.now (omega (arith, c.requires.consumption)) in
     let ls = take_all CELLS a.losses.now (omega (arith, c.requires.losses)) in
     let bs = take_all CELLS a.balance.now (omega (arith, c.requires.balance)) in
     let rs = take_all USERS a.revision.now (omega (arith, c.requires.revision)) in
-    let T = rw (cs, ls, bs, rs) at (c.parts_test-tally.ensures a.stage) in
-    let n : c.parts_test-tally.result.right ≡ false = search rules in
-    (sym T.is ∙ n, refl)
+    (rw (cs, ls, bs, rs) at (c.in_default.ensures a.stage), refl)
 
 pub returns : goal.returns
 returns c =
@@ -56,18 +53,16 @@ returns c =
     let ls = take_all CELLS a.losses.now (omega (arith, c.requires.losses)) in
     let bs = take_all CELLS a.balance.now (omega (arith, c.requires.balance)) in
     let rs = take_all USERS a.revision.now (omega (arith, c.requires.revision)) in
-    let T = rw (cs, ls, bs, rs) at (c.parts_test-tally.ensures a.stage) in
+    let T = rw (cs, ls, bs, rs) at (c.in-Some.ensures a.stage) in
     let u : length a.users ≡ USERS = search rules in
-    let y : c.parts_test-tally.result.right ≡ true = search rules in
-    let t = sym T.is ∙ y in
     record {
       sized = parts_sized a.stage u c.requires;
-      is_taken = t;
+      is_taken = T.0;
       stage = refl;
       allotted = refl;
       measurement = refl;
       count = refl;
       users = refl;
-      wholes = first_wholes _ a.count _ (T.wholes y);
-      sum = sum_kept _ (parts_sized a.stage u c.requires) t (T.sum y);
+      wholes = first_wholes _ a.count _ T.2;
+      sum = sum_kept _ (parts_sized a.stage u c.requires) T.0 T.1;
     }
