@@ -3,23 +3,16 @@
 
 pub mod shares;
 
-ghost use Rattle.std.specs.Prelude.{◌≡◌, map, ◌++◌, ℕ, ◌≤◌, ◌<◌, nat_abs, length, take, drop, replicate};
-ghost use Rattle.numbers.specs.Sums.{at, atZ};
+ghost use Rattle.std.specs.Prelude.{◌≡◌, map, ◌++◌, ℕ, ◌≤◌, ◌<◌, nat_abs, length, take, drop};
+ghost use Rattle.numbers.specs.Sums.{atZ};
 ghost use Rattle.numbers.specs.Lists.{every};
 ghost use Rattle.numbers.specs.Amounts.{Within};
-ghost use Rattle.point_day.specs.Limits.{USERS, AMOUNT};
+ghost use Rattle.point_day.specs.Limits.{AMOUNT};
 ghost use Rattle.point_day.specs.Day.{no_more};
 ghost use Rattle.point_day.specs.Calls.{negative};
 ghost use Rattle.columns.specs.Summable.{SUMMABLE};
 
-use point_day::{AMOUNT, USERS};
-
-// Zeros.
-pub fn column() -> [u64; USERS]
-    ensures { result ≡ replicate USERS 0 }
-{
-    numbers::repeat(0)
-}
+use point_day::AMOUNT;
 
 // The keys of as many users as there is room for: a user's key in a proration is its number, not its place.
 pub fn keys_of(users: &[u16], keys: &mut [u64])

@@ -5,15 +5,9 @@ ghost use Rattle.std.specs.Prelude.{◌≡◌, true, ◌++◌, ◌≤◌, length
 ghost use Rattle.spread.specs.Period.{in_range, days, parts};
 ghost use Rattle.spread.specs.Spread.{outcome, spread, answer_of};
 
-use numbers::{NEGATIVE_WEIGHT, OUT_OF_RANGE, SHORT_BUFFER};
+use numbers::Refusal;
 use point_day::LIMIT;
 use proration::PARTIES;
-
-#[derive(Clone, Copy)]
-pub enum SpreadAnswer {
-    Refused(u8),
-    Done,
-}
 
 // Whether the reading, the count of days and each weight are in their ranges.
 #[tactic(auto, unfolding(crate::specs::Period::in_range))]
@@ -58,18 +52,18 @@ fn spread_days(reading: u64, weights: &[i64], out: &mut [i64])
 }
 
 // Spreads a reading over the days of its period by their weights, into a lent buffer whose later numbers stay.
-pub fn spread(reading: u64, weights: &[i64], out: &mut [i64]) -> SpreadAnswer
+pub fn spread(reading: u64, weights: &[i64], out: &mut [i64]) -> Result<(), Refusal>
     ensures { outcome (answer_of result) out.new ≡ spread reading weights.now out.old }
 {
     if !is_in_range(reading, weights) {
-        return SpreadAnswer::Refused(OUT_OF_RANGE);
+        return Err(Refusal::OutOfRange);
     }
     if columns::any_negative(weights) {
-        return SpreadAnswer::Refused(NEGATIVE_WEIGHT);
+        return Err(Refusal::NegativeWeight);
     }
     if out.len() < weights.len() {
-        return SpreadAnswer::Refused(SHORT_BUFFER);
+        return Err(Refusal::ShortBuffer);
     }
     spread_days(reading, weights, out);
-    SpreadAnswer::Done
+    Ok(())
 }
