@@ -1,188 +1,104 @@
 // The arguments of the calls from bytes, little-endian.
 #![tactic(auto)]
 
-ghost use Rattle.std.specs.Prelude.{◌<◌};
+ghost use Rattle.std.specs.Prelude.{◌<◌, ◌≤◌, length};
 ghost use Rattle.point_day.specs.Limits.{ROWS};
-ghost use Rattle.console.specs.Input.{Onward};
 
-use console::cursor;
-use console::cursor::Cursor;
-use plain_day::from_numbers;
-use point_day::{CELLS, Measurement, PAIRS, ROWS, Stage, StandInRows, USERS};
+use console::input::{Input, Malformed, Number};
+use line::cells::LineEntry;
+use point_day::{Measurement, PAIRS, PointDay, ROWS, Stage, StandInRows, USERS};
 
 // ---- line
 
-// The arguments of a line, and the place after them.
-#[derive(Clone, Copy)]
-pub struct LineArguments {
-    pub user: u16,
-    pub kind: u8,
-    pub consumption: u64,
-    pub coefficient: u64,
-    pub next: Cursor,
-}
-
-pub fn read_line(s: &[u8], from: Cursor) -> LineArguments
-    ensures { Onward from result.next }
+pub fn read_line(input: &mut Input) -> Result<LineEntry, Malformed>
+    ensures { length input.new ≤ length input.old }
 {
-    let user = cursor::read_u16(s, from);
-    let kind = cursor::read_u8(s, user.next);
-    let consumption = cursor::read_u64(s, kind.next);
-    let coefficient = cursor::read_u32(s, consumption.next);
-    let next = coefficient.next;
-    LineArguments {
-        user: user.value as u16,
-        kind: kind.value as u8,
-        consumption: consumption.value,
-        coefficient: coefficient.value,
-        next,
-    }
+    Ok(LineEntry {
+        user: u16::read(input)?,
+        kind: u8::read(input)?,
+        consumption: u64::read(input)?,
+        coefficient: u32::read(input)?.into(),
+    })
 }
 
 // ---- stand-in
 
-// The rows of a stand-in, and the place after them.
-#[derive(Clone, Copy)]
-pub struct RowsRead {
-    pub rows: StandInRows,
-    pub next: Cursor,
-}
-
 // The bytes of a pair: user and amount.
 const PAIR_BYTES: usize = 10;
 
-fn no_rows() -> StandInRows {
-    StandInRows {
-        counts: [0; ROWS],
-        users: [0; PAIRS],
-        amounts: [0; PAIRS],
-    }
-}
-
 // Row i of a stand-in: its count, and as many pairs; those past the most users of a point-day are passed over.
-fn read_row(s: &[u8], from: Cursor, i: usize, rows: StandInRows) -> RowsRead
+fn read_row(input: &mut Input, i: usize, rows: &mut StandInRows) -> Result<(), Malformed>
     requires { i < ROWS }
-    ensures { Onward from result.next }
+    ensures { length input.new ≤ length input.old }
 {
-    let n = cursor::read_u16(s, from);
-    let count = n.value as usize;
-    let mut filled = rows;
-    let mut next = n.next;
-    filled.counts[i] = count;
-    let mut j = 0;
-    while j < USERS {
-        if count <= j {
-            return RowsRead { rows: filled, next };
-        }
-        let user = cursor::read_u16(s, next);
-        let amount = cursor::read_u64(s, user.next);
-        filled.users[USERS * i + j] = user.value as u16;
-        filled.amounts[USERS * i + j] = wire::to_signed(amount.value);
-        next = amount.next;
-        j += 1;
+    let count = usize::from(u16::read(input)?);
+    rows.counts[i] = count;
+    for j in 0..count.min(USERS) {
+        rows.users[USERS * i + j] = u16::read(input)?;
+        rows.amounts[USERS * i + j] = i64::read(input)?;
     }
-    let past = cursor::pass(s, next, PAIR_BYTES * (count - USERS));
-    RowsRead {
-        rows: filled,
-        next: past,
-    }
+    input.bytes(PAIR_BYTES * count.saturating_sub(USERS))?;
+    Ok(())
 }
 
-pub fn read_rows(s: &[u8], from: Cursor) -> RowsRead
-    ensures { Onward from result.next }
+pub fn read_rows(input: &mut Input) -> Result<StandInRows, Malformed>
+    ensures { length input.new ≤ length input.old }
 {
-    let mut rows = RowsRead {
-        rows: no_rows(),
-        next: from,
+    let mut rows = StandInRows {
+        counts: numbers::repeat::<_, ROWS>(0),
+        users: numbers::repeat::<_, PAIRS>(0),
+        amounts: numbers::repeat::<_, PAIRS>(0),
     };
-    let mut i = 0;
-    while i < ROWS {
-        let next = rows.next;
-        let filled = rows.rows;
-        rows = read_row(s, next, i, filled);
-        i += 1;
+    for i in 0..ROWS {
+        read_row(input, i, &mut rows)?;
     }
-    rows
+    Ok(rows)
 }
 
 // ---- load
 
-// The measurement of a point-day that is loaded, and the place after it.
-#[derive(Clone, Copy)]
-struct MeasurementRead {
-    measurement: Measurement,
-    next: Cursor,
-}
-
-fn read_measurement(s: &[u8], from: Cursor) -> MeasurementRead
-    ensures { Onward from result.next }
+fn read_stage(input: &mut Input) -> Result<Stage, Malformed>
+    ensures { length input.new ≤ length input.old }
 {
-    let measured = cursor::at_most(cursor::read_u8(s, from), 1);
-    let emission = cursor::read_u64(s, measured.next);
-    let downstream = cursor::read_u64(s, emission.next);
-    let next = downstream.next;
-    let measurement = from_numbers::measurement_of(
-        measured.value,
-        emission.value,
-        downstream.value,
-    );
-    MeasurementRead { measurement, next }
+    match u8::read(input)? {
+        0 => Ok(Stage::Provisional),
+        1 => Ok(Stage::FinalProvisional),
+        2 => Ok(Stage::FinalDefinitive),
+        _ => Err(Malformed),
+    }
 }
 
-// What a point-day that is loaded has before its arrays, and the place after it.
-#[derive(Clone, Copy)]
-pub struct Head {
-    pub stage: Stage,
-    pub allotted: bool,
-    pub measurement: Measurement,
-    pub count: usize,
-    pub next: Cursor,
-}
-
-pub fn read_head(s: &[u8], from: Cursor) -> Head
-    ensures { Onward from result.next }
+fn read_measurement(input: &mut Input) -> Result<Option<Measurement>, Malformed>
+    ensures { length input.new ≤ length input.old }
 {
-    let tag = cursor::at_most(cursor::read_u8(s, from), 2);
-    let allotted = cursor::at_most(cursor::read_u8(s, tag.next), 1);
-    let measured = read_measurement(s, allotted.next);
-    let count = cursor::read_u16(s, measured.next);
-    let stage = from_numbers::stage_of(tag.value);
-    let measurement = measured.measurement;
-    let next = count.next;
-    Head {
+    let measured = input.flag()?;
+    let emission = u64::read(input)?;
+    let downstream = u64::read(input)?;
+    Ok(measured.then_some(Measurement {
+        emission,
+        downstream,
+    }))
+}
+
+// The point-day that is loaded: stage, whether it is allotted, measurement and count of users, then its arrays.
+pub fn read_day(input: &mut Input) -> Result<PointDay, Malformed>
+    ensures { length input.new ≤ length input.old }
+{
+    let stage = read_stage(input)?;
+    let allotted = input.flag()?;
+    let measurement = read_measurement(input)?;
+    let count = usize::from(u16::read(input)?);
+    let mut day = PointDay {
         stage,
-        allotted: allotted.value == 1,
+        allotted,
         measurement,
-        count: count.value as usize,
-        next,
-    }
-}
-
-// Fills the array with user numbers of two bytes each.
-pub fn read_users(s: &[u8], from: Cursor, users: &mut [u16; USERS]) -> Cursor
-    ensures { Onward from result }
-{
-    let mut next = from;
-    let mut i = 0;
-    while i < USERS {
-        let n = cursor::read_u16(s, next);
-        users[i] = n.value as u16;
-        next = n.next;
-        i += 1;
-    }
-    next
-}
-
-// Fills the array with signed amounts, of which there is one for each user and kind.
-pub fn read_cells(s: &[u8], from: Cursor, amounts: &mut [i64; CELLS]) -> Cursor
-    ensures { Onward from result }
-{
-    cursor::read_amounts(s, from, amounts)
-}
-
-// Fills the array with signed amounts, one for each user.
-pub fn read_revisions(s: &[u8], from: Cursor, amounts: &mut [i64; USERS]) -> Cursor
-    ensures { Onward from result }
-{
-    cursor::read_amounts(s, from, amounts)
+        count,
+        ..point_day::fresh_day()
+    };
+    input.fill(&mut day.users)?;
+    input.fill(&mut day.consumption)?;
+    input.fill(&mut day.losses)?;
+    input.fill(&mut day.balance)?;
+    input.fill(&mut day.revision)?;
+    Ok(day)
 }

@@ -1,12 +1,13 @@
-// What the programs share: standard input, numbers read from it one after the other, and what is printed.
+// What the programs share: standard input, numbers read from it one after the other, what is printed, and a run.
 #![tactic(auto)]
 
+ghost use Rattle.std.specs.Prelude.{◌<◌, length, OnOk};
 ghost use Rattle.std.specs.Io.{ReadsAtMost};
 
-pub mod cursor;
+pub mod input;
 pub mod output;
 
-use cursor::Cursor;
+use input::{Input, Malformed};
 use std::io;
 use std::io::{Read, Write};
 
@@ -14,11 +15,32 @@ use std::io::{Read, Write};
 pub const MOST_INPUT: usize = 1048576;
 
 // Room for them and for one byte more, by which a longer input is known.
-pub const INPUT_ROOM: usize = MOST_INPUT + 1;
+const INPUT_ROOM: usize = MOST_INPUT + 1;
 
-// (A call without a promise, so that no proof sees the bytes one by one.)
-pub fn input_room() -> [u8; INPUT_ROOM] {
-    [0; INPUT_ROOM]
+// Why a run ends before its input does.
+#[derive(Clone, Copy)]
+pub enum Stop {
+    Malformed,
+    Failed(io::Error),
+}
+
+impl From<Malformed> for Stop {
+    fn from(_malformed: Malformed) -> Stop {
+        Stop::Malformed
+    }
+}
+
+impl From<io::Error> for Stop {
+    fn from(error: io::Error) -> Stop {
+        Stop::Failed(error)
+    }
+}
+
+// What runs the operations of an input.
+pub trait Program {
+    // Reads the next operation, runs it, and prints what it answers.
+    fn step<W: Write>(&mut self, out: &mut W, input: &mut Input) -> Result<(), Stop>
+        ensures { OnOk result (length input.new < length input.old) };
 }
 
 // Reads until the room is full or the input ends, and answers how many bytes it put there.
@@ -36,27 +58,29 @@ pub fn read_full<R: Read>(input: &mut R, room: &mut [u8]) -> io::Result<usize>
     Ok(done)
 }
 
-// Reads all of the input, as far as there is room, and answers how many bytes of it are to be run. What is longer than a program takes
-// is malformed, and none of it is.
-pub fn read_input<R: Read, W: Write>(
-    input: &mut R,
-    out: &mut W,
-    room: &mut [u8],
-) -> io::Result<usize>
-    ensures { ReadsAtMost result room.new }
-{
-    let n = read_full(input, room)?;
-    if MOST_INPUT < n {
-        output::malformed(out)?;
-        return Ok(0);
+// The operations one after the other. What is longer than a program takes is malformed, and none of it is run.
+fn run_bytes<P: Program, W: Write>(program: &mut P, out: &mut W, bytes: &[u8]) -> Result<(), Stop> {
+    if MOST_INPUT < bytes.len() {
+        return Err(Stop::Malformed);
     }
-    Ok(n)
-}
-
-// The end of a run: what was cut short or had no meaning is malformed.
-pub fn end_run<W: Write>(out: &mut W, last: Cursor) -> io::Result<()> {
-    if !last.ok {
-        output::malformed(out)?;
+    let mut input = Input::new(bytes);
+    while !input.is_empty() {
+        program.step(out, &mut input)?;
     }
     Ok(())
+}
+
+// The same from all of an input. What is malformed is printed as that, after what came before it.
+pub fn run<P: Program, R: Read, W: Write>(
+    program: &mut P,
+    input: &mut R,
+    out: &mut W,
+) -> io::Result<()> {
+    let mut room = numbers::repeat::<_, INPUT_ROOM>(0);
+    let n = read_full(input, &mut room)?;
+    match run_bytes(program, out, &room[..n]) {
+        Ok(()) => Ok(()),
+        Err(Stop::Malformed) => output::malformed(out),
+        Err(Stop::Failed(error)) => Err(error),
+    }
 }

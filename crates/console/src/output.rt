@@ -1,57 +1,35 @@
-// What the programs print, line by line. Nothing is promised about the bytes.
+// What the programs print alike. Nothing is promised about the bytes.
+use numbers::Refusal;
+use std::fmt::Display;
 use std::io;
 use std::io::Write;
-
-pub fn text<W: Write>(out: &mut W, bytes: &[u8]) -> io::Result<()> {
-    out.write_all(bytes)
-}
-
-// A space and a number.
-pub fn amount<W: Write>(out: &mut W, x: i64) -> io::Result<()> {
-    write!(out, " {x}")
-}
 
 // Each with a space before it.
 pub fn amounts<W: Write>(out: &mut W, xs: &[i64]) -> io::Result<()> {
     for x in xs {
-        amount(out, *x)?;
+        write!(out, " {x}")?;
     }
     Ok(())
 }
 
-pub fn number<W: Write>(out: &mut W, n: u64) -> io::Result<()> {
-    write!(out, " {n}")
-}
-
-pub fn user<W: Write>(out: &mut W, n: u16) -> io::Result<()> {
-    number(out, n as u64)
-}
-
-pub fn end<W: Write>(out: &mut W) -> io::Result<()> {
-    text(out, b"\n")
-}
-
 pub fn malformed<W: Write>(out: &mut W) -> io::Result<()> {
-    text(out, b"malformed\n")
+    writeln!(out, "malformed")
 }
 
-pub fn refused<W: Write>(out: &mut W, n: u8) -> io::Result<()> {
-    text(out, b"refused")?;
-    number(out, n as u64)?;
-    end(out)
+// A refusal, on a line that may go on.
+pub fn refusal<W: Write>(out: &mut W, refusal: Refusal) -> io::Result<()> {
+    write!(out, "refused {}", u8::from(refusal))
 }
 
-// A name and a number.
-pub fn one<W: Write>(out: &mut W, name: &[u8], n: u64) -> io::Result<()> {
-    text(out, name)?;
-    number(out, n)?;
-    end(out)
-}
-
-// A name and two numbers.
-pub fn two<W: Write>(out: &mut W, name: &[u8], m: u64, n: u64) -> io::Result<()> {
-    text(out, name)?;
-    number(out, m)?;
-    number(out, n)?;
-    end(out)
+// The value under its name, or the refusal.
+pub fn answer<W: Write, T: Display + Drop>(
+    out: &mut W,
+    name: &str,
+    answer: Result<T, Refusal>,
+) -> io::Result<()> {
+    match answer {
+        Ok(value) => write!(out, "{name} {value}")?,
+        Err(refused) => refusal(out, refused)?,
+    }
+    writeln!(out)
 }

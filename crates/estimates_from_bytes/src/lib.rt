@@ -1,292 +1,181 @@
 // Calls on supply points, readings and the calendar from bytes: an operation is a byte and its arguments, little-endian; what each call
-// answers is printed.
+// answers is printed. A call's function here answers Malformed where its arguments can't be read, and else what the call answers.
 #![tactic(auto)]
 
-ghost use Rattle.std.specs.Prelude.{IfOk};
-ghost use Rattle.console.specs.Input.{Onward, Moved};
+ghost use Rattle.std.specs.Prelude.{◌≤◌, length};
 
-use calendar::{DayType, DayTypeAnswer, NumberAnswer};
-use console::cursor::{Cursor, MOST_LENT};
-use console::{cursor, output};
-use degree_days::DegreeDaysAnswer;
-use months::MonthAnswer;
-use spread::SpreadAnswer;
-use std::io;
+use calendar::DayType;
+use console::input::{Input, MOST_LENT, Malformed, Number};
+use console::{Program, Stop, input, output};
+use months::MonthFigures;
+use numbers::Refusal;
 use std::io::{Read, Write};
-use supply::{Amount, Flows, Toll};
-use telemetered::{OwnValue, TelemeteredAnswer};
-use zones::ProvinceAnswer;
+use std::{fmt, io};
+use supply::{Flows, Toll};
+use type_1::{OtherToll, Toll34};
+use type_2::Year;
+use values_from_bytes::{pass_winter, read_history, read_list, read_optional, read_winter};
 
-// The most lists of winters that are read.
-const MOST_WINTERS: u64 = 8;
+// The most holidays and degree days of a list, and the most lists of winters that are read.
+const MOST_HOLIDAYS: usize = 4000;
 
-// An answer that gives one number, under its name.
-fn print_number<W: Write>(out: &mut W, name: &[u8], answer: NumberAnswer) -> io::Result<()> {
-    match answer {
-        NumberAnswer::Refused(n) => output::refused(out, n),
-        NumberAnswer::Given(v) => output::one(out, name, v),
+const MOST_DEGREE_DAYS: usize = 255;
+
+const MOST_WINTERS: usize = 8;
+
+// Two numbers of an answer.
+#[derive(Clone, Copy)]
+struct Two(u64, u64);
+
+impl fmt::Display for Two {
+    fn fmt<W: fmt::Write>(&self, f: &mut fmt::Formatter<W>) -> fmt::Result {
+        write!(f, "{} {}", self.0, self.1)
     }
 }
 
 // ---- telemetered
 
-fn own_value(amount: Amount) -> OwnValue {
-    match amount {
-        Amount::Missing => OwnValue::NotSent,
-        Amount::Known(v) => OwnValue::Sent(v),
-    }
-}
-
-fn toll(flag: u64) -> Toll {
-    if flag == 1 {
-        Toll::Toll34
+fn read_toll(input: &mut Input) -> Result<Toll, Malformed>
+    ensures { length input.new ≤ length input.old }
+{
+    if input.flag()? {
+        Ok(Toll::Toll34)
     } else {
-        Toll::OtherToll
+        Ok(Toll::OtherToll)
     }
 }
 
-fn print_telemetered<W: Write>(out: &mut W, answer: TelemeteredAnswer) -> io::Result<()> {
-    match answer {
-        TelemeteredAnswer::Refused(n) => output::refused(out, n),
-        TelemeteredAnswer::Consumption { kwh, looked } => {
-            output::two(out, b"telemetered", kwh, looked as u64)
-        }
-    }
-}
-
-// Contracted flows, and the place after them.
-#[derive(Clone, Copy)]
-struct FlowsRead {
-    flows: Flows,
-    next: Cursor,
-}
-
-fn read_flows(s: &[u8], from: Cursor) -> FlowsRead
-    ensures { Onward from result.next }
+fn read_flows(input: &mut Input) -> Result<Flows, Malformed>
+    ensures { length input.new ≤ length input.old }
 {
-    let kind = cursor::at_most(cursor::read_u8(s, from), 1);
-    let of_year = values_from_bytes::read_optional(s, kind.next);
-    let of_day = values_from_bytes::read_optional(s, of_year.next);
-    let factor = values_from_bytes::read_word(s, of_day.next);
-    let toll = toll(kind.value);
-    let yearly = of_year.amount;
-    let daily = of_day.amount;
-    let flows = Flows {
-        toll,
-        yearly,
-        daily,
-        factor: factor.value,
-    };
-    let next = factor.next;
-    FlowsRead { flows, next }
+    Ok(Flows {
+        toll: read_toll(input)?,
+        yearly: read_optional(input)?,
+        daily: read_optional(input)?,
+        factor: u32::read(input)?,
+    })
 }
 
-fn telemetered<W: Write>(out: &mut W, s: &[u8], from: Cursor) -> io::Result<Cursor>
-    ensures { IfOk result (λ next. Onward from next) }
+fn telemetered(input: &mut Input) -> Result<Result<Two, Refusal>, Malformed>
+    ensures { length input.new ≤ length input.old }
 {
-    let mut days = values_from_bytes::holiday_room();
-    let day = values_from_bytes::read_day(s, from, &mut days);
-    let n = day.holidays;
-    let reading = values_from_bytes::read_optional(s, day.next);
-    let own = values_from_bytes::read_optional(s, reading.next);
-    let flows = read_flows(s, own.next);
-    let entries = cursor::read_u16(s, flows.next);
-    let count = entries.value as usize;
-    let history = values_from_bytes::read_history(s, entries.next, count);
-    let next = history.next;
-    if next.ok {
-        let read = reading.amount;
-        let own_amount = own.amount;
-        let sent = own_value(own_amount);
-        let list = history.entries;
-        let answer = telemetered::telemetered(
-            day.value,
-            &days[..n],
-            read,
-            sent,
-            flows.flows,
-            list,
-            count,
-        );
-        print_telemetered(out, answer)?;
-    }
-    Ok(next)
+    let mut room = numbers::repeat::<_, MOST_HOLIDAYS>(0);
+    let day = u32::read(input)?;
+    let holidays = read_list::<u16, u32>(input, &mut room)?;
+    let reading = read_optional(input)?;
+    let own = read_optional(input)?;
+    let flows = read_flows(input)?;
+    let count = u16::read(input)?;
+    let history = read_history(input, count)?;
+    let answer = telemetered::telemetered(
+        day,
+        holidays,
+        reading,
+        own,
+        flows,
+        history,
+        count.into(),
+    );
+    Ok(answer.map(|estimate| Two(estimate.kwh, estimate.looked as u64)))
 }
 
 // ---- Type 1 and Type 2
 
-fn toll_34<W: Write>(out: &mut W, s: &[u8], from: Cursor) -> io::Result<Cursor>
-    ensures { IfOk result (λ next. Onward from next) }
+fn toll_34(input: &mut Input) -> Result<Result<u64, Refusal>, Malformed>
+    ensures { length input.new ≤ length input.old }
 {
-    let day = values_from_bytes::read_word(s, from);
-    let last_year = values_from_bytes::read_optional(s, day.next);
-    let g = values_from_bytes::read_word(s, last_year.next);
-    let mut days = values_from_bytes::degree_day_room();
-    let last_days = values_from_bytes::read_list(s, cursor::read_u8(s, g.next), &mut days);
-    let n = last_days.count;
-    let last_month = values_from_bytes::read_optional(s, last_days.next);
-    let year = values_from_bytes::read_optional(s, last_month.next);
-    let next = year.next;
-    if next.ok {
-        let last = last_year.amount;
-        let month = last_month.amount;
-        let flow = year.amount;
-        let answer = type_1::toll_34(day.value, last, g.value, &days[..n], month, flow);
-        print_number(out, b"type1", answer)?;
-    }
-    Ok(next)
+    let mut room = numbers::repeat::<_, MOST_DEGREE_DAYS>(0);
+    let point = Toll34 {
+        day: u32::read(input)?,
+        last_year: read_optional(input)?,
+        g: u32::read(input)?,
+        last_days: read_list::<u8, u32>(input, &mut room)?,
+        last_month: read_optional(input)?,
+        year_flow: read_optional(input)?,
+    };
+    Ok(type_1::toll_34(&point))
 }
 
-fn other_toll<W: Write>(out: &mut W, s: &[u8], from: Cursor) -> io::Result<Cursor>
-    ensures { IfOk result (λ next. Onward from next) }
+fn other_toll(input: &mut Input) -> Result<Result<u64, Refusal>, Malformed>
+    ensures { length input.new ≤ length input.old }
 {
-    let mut days = values_from_bytes::holiday_room();
-    let day = values_from_bytes::read_day(s, from, &mut days);
-    let n = day.holidays;
-    let last_year = values_from_bytes::read_optional(s, day.next);
-    let c_c = values_from_bytes::read_word(s, last_year.next);
-    let last_month = values_from_bytes::read_optional(s, c_c.next);
-    let flow = values_from_bytes::read_optional(s, last_month.next);
-    let f_c = values_from_bytes::read_word(s, flow.next);
-    let c_f = values_from_bytes::read_word(s, f_c.next);
-    let next = c_f.next;
-    if next.ok {
-        let last = last_year.amount;
-        let month = last_month.amount;
-        let daily = flow.amount;
-        let answer = type_1::other_toll(
-            day.value,
-            &days[..n],
-            last,
-            c_c.value,
-            month,
-            daily,
-            f_c.value,
-            c_f.value,
-        );
-        print_number(out, b"type1", answer)?;
-    }
-    Ok(next)
+    let mut room = numbers::repeat::<_, MOST_HOLIDAYS>(0);
+    let point = OtherToll {
+        day: u32::read(input)?,
+        holidays: read_list::<u16, u32>(input, &mut room)?,
+        last_year: read_optional(input)?,
+        c_c: u32::read(input)?,
+        last_month: read_optional(input)?,
+        day_flow: read_optional(input)?,
+        f_c: u32::read(input)?,
+        c_f: u32::read(input)?,
+    };
+    Ok(type_1::other_toll(&point))
 }
 
-// Passes over the lists of winters past the second.
-fn pass_winters(s: &[u8], from: Cursor, winters: u64) -> Cursor
-    ensures { Onward from result }
+fn type_2(input: &mut Input) -> Result<Result<u64, Refusal>, Malformed>
+    ensures { length input.new ≤ length input.old }
 {
-    let mut next = from;
-    let mut i: u64 = 2;
-    while i < winters {
-        next = values_from_bytes::pass_list(s, next);
-        i += 1;
+    let mut first_room = numbers::repeat::<_, MOST_DEGREE_DAYS>(0);
+    let mut second_room = numbers::repeat::<_, MOST_DEGREE_DAYS>(0);
+    let consumers = u32::read(input)?;
+    let profile = u64::read(input)?;
+    let g = u32::read(input)?;
+    let winters = u8::read(input)?;
+    input::at_most(winters.into(), MOST_WINTERS)?;
+    let first = read_winter(input, 0 < winters, &mut first_room)?;
+    let second = read_winter(input, 1 < winters, &mut second_room)?;
+    for _ in 2..winters {
+        pass_winter(input)?;
     }
-    next
+    Ok(type_2::type_2(consumers, profile, g, winters, first, second))
 }
 
-fn type_2<W: Write>(out: &mut W, s: &[u8], from: Cursor) -> io::Result<Cursor>
-    ensures { IfOk result (λ next. Onward from next) }
+fn profile(input: &mut Input) -> Result<Result<u64, Refusal>, Malformed>
+    ensures { length input.new ≤ length input.old }
 {
-    let consumers = values_from_bytes::read_word(s, from);
-    let profile = cursor::read_u64(s, consumers.next);
-    let g = values_from_bytes::read_word(s, profile.next);
-    let winters = cursor::at_most(cursor::read_u8(s, g.next), MOST_WINTERS);
-    let mut first = values_from_bytes::degree_day_room();
-    let mut second = values_from_bytes::degree_day_room();
-    let one = values_from_bytes::read_winter(s, winters.next, 0 < winters.value, &mut first);
-    let m = one.count;
-    let two = values_from_bytes::read_winter(s, one.next, 1 < winters.value, &mut second);
-    let n = two.count;
-    let next = pass_winters(s, two.next, winters.value);
-    if next.ok {
-        let k = winters.value as u8;
-        let answer = type_2::type_2(
-            consumers.value,
-            profile.value,
-            g.value,
-            k,
-            &first[..m],
-            &second[..n],
-        );
-        print_number(out, b"type2", answer)?;
-    }
-    Ok(next)
-}
-
-fn profile<W: Write>(out: &mut W, s: &[u8], from: Cursor) -> io::Result<Cursor>
-    ensures { IfOk result (λ next. Onward from next) }
-{
-    let f1 = cursor::read_u64(s, from);
-    let f2 = cursor::read_u64(s, f1.next);
-    let nc1 = values_from_bytes::read_word(s, f2.next);
-    let nc2 = values_from_bytes::read_word(s, nc1.next);
-    let n1 = values_from_bytes::read_word(s, nc2.next);
-    let n2 = values_from_bytes::read_word(s, n1.next);
-    let next = n2.next;
-    if next.ok {
-        let answer = type_2::profile(f1.value, f2.value, nc1.value, nc2.value, n1.value, n2.value);
-        print_number(out, b"profile", answer)?;
-    }
-    Ok(next)
+    let f1 = u64::read(input)?;
+    let f2 = u64::read(input)?;
+    let nc1 = u32::read(input)?;
+    let nc2 = u32::read(input)?;
+    let n1 = u32::read(input)?;
+    let n2 = u32::read(input)?;
+    let one = Year {
+        consumption: f1,
+        consumers: nc1,
+        days: n1,
+    };
+    let two = Year {
+        consumption: f2,
+        consumers: nc2,
+        days: n2,
+    };
+    Ok(type_2::profile(one, two))
 }
 
 // ---- degree days, zones and provinces
 
-fn print_degree_days<W: Write>(out: &mut W, answer: DegreeDaysAnswer) -> io::Result<()> {
-    match answer {
-        DegreeDaysAnswer::Refused(n) => output::refused(out, n),
-        DegreeDaysAnswer::Fortieths(d) => output::one(out, b"degree-days", d),
-    }
-}
-
-fn degree_days<W: Write>(out: &mut W, s: &[u8], from: Cursor) -> io::Result<Cursor>
-    ensures { IfOk result (λ next. Onward from next) }
+fn degree_days(input: &mut Input) -> Result<Result<u64, Refusal>, Malformed>
+    ensures { length input.new ≤ length input.old }
 {
-    let tmin = values_from_bytes::read_word(s, from);
-    let tmax = values_from_bytes::read_word(s, tmin.next);
-    let next = tmax.next;
-    if next.ok {
-        print_degree_days(
-            out,
-            degree_days::degree_days(
-                values_from_bytes::signed(tmin.value),
-                values_from_bytes::signed(tmax.value),
-            ),
-        )?;
-    }
-    Ok(next)
+    let tmin = i32::read(input)?;
+    let tmax = i32::read(input)?;
+    Ok(degree_days::degree_days(tmin, tmax))
 }
 
-fn zone<W: Write>(out: &mut W, s: &[u8], from: Cursor) -> io::Result<Cursor>
-    ensures { IfOk result (λ next. Onward from next) }
+fn zone(input: &mut Input) -> Result<Result<u64, Refusal>, Malformed>
+    ensures { length input.new ≤ length input.old }
 {
-    let hundredths = values_from_bytes::read_word(s, from);
-    let next = hundredths.next;
-    if next.ok {
-        print_number(out, b"zone", zones::zone_of(hundredths.value))?;
-    }
-    Ok(next)
+    let hundredths = u32::read(input)?;
+    Ok(zones::zone_of(hundredths))
 }
 
-fn print_province<W: Write>(out: &mut W, answer: ProvinceAnswer) -> io::Result<()> {
-    match answer {
-        ProvinceAnswer::Refused(n) => output::refused(out, n),
-        ProvinceAnswer::ValueAndZone { value, zone } => output::two(
-            out,
-            b"province",
-            value as u64,
-            zone as u64,
-        ),
-    }
-}
-
-fn province<W: Write>(out: &mut W, s: &[u8], from: Cursor) -> io::Result<Cursor>
-    ensures { IfOk result (λ next. Onward from next) }
+fn province(input: &mut Input) -> Result<Result<Two, Refusal>, Malformed>
+    ensures { length input.new ≤ length input.old }
 {
-    let number = values_from_bytes::read_word(s, from);
-    let next = number.next;
-    if next.ok {
-        print_province(out, zones::province_of(number.value))?;
-    }
-    Ok(next)
+    let number = u32::read(input)?;
+    let answer = zones::province_of(number);
+    Ok(answer.map(|province| Two(province.mean.into(), province.zone.into())))
 }
 
 // ---- spreading a reading
@@ -298,139 +187,98 @@ fn print_spread<W: Write>(
     weights: &[i64],
     lent: &mut [i64],
 ) -> io::Result<()> {
-    let answer = spread::spread(reading, weights, lent);
-    match answer {
-        SpreadAnswer::Refused(n) => {
-            output::text(out, b"refused")?;
-            output::number(out, n as u64)?;
-        }
-        SpreadAnswer::Done => output::text(out, b"spread")?,
+    match spread::spread(reading, weights, lent) {
+        Ok(()) => write!(out, "spread")?,
+        Err(refusal) => output::refusal(out, refusal)?,
     }
     output::amounts(out, lent)?;
-    output::end(out)
+    writeln!(out)
 }
 
-fn spread<W: Write>(out: &mut W, s: &[u8], from: Cursor) -> io::Result<Cursor>
-    ensures { IfOk result (λ next. Onward from next) }
+fn spread<W: Write>(out: &mut W, input: &mut Input) -> Result<(), Stop>
+    ensures { length input.new ≤ length input.old }
 {
-    let reading = cursor::read_u64(s, from);
-    let mut days = cursor::lent_room();
-    let weights = values_from_bytes::read_weights(s, reading.next, &mut days);
-    let n = weights.count;
-    let length = cursor::at_most(cursor::read_u16(s, weights.next), MOST_LENT as u64);
-    let next = length.next;
-    if next.ok {
-        let m = length.value as usize;
-        let mut lent = cursor::lent_numbers();
-        print_spread(out, reading.value, &days[..n], &mut lent[..m])?;
-    }
-    Ok(next)
+    let mut room = numbers::repeat::<_, MOST_LENT>(0);
+    let reading = u64::read(input)?;
+    let weights = read_list::<u16, i64>(input, &mut room)?;
+    let count = u16::read(input)?;
+    let n = input::at_most(count.into(), MOST_LENT)?;
+    let mut lent = input::lent_numbers();
+    print_spread(out, reading, weights, &mut lent[..n])?;
+    Ok(())
 }
 
 // ---- calendar
 
-fn print_day_type<W: Write>(out: &mut W, answer: DayTypeAnswer) -> io::Result<()> {
-    match answer {
-        DayTypeAnswer::Refused(n) => output::refused(out, n),
-        DayTypeAnswer::Is(t) => match t {
-            DayType::Working => output::text(out, b"day-type working\n"),
-            DayType::Saturday => output::text(out, b"day-type saturday\n"),
-            DayType::SundayOrHoliday => output::text(out, b"day-type sunday\n"),
-        },
+fn name_of(day_type: DayType) -> &'static str {
+    match day_type {
+        DayType::Working => "working",
+        DayType::Saturday => "saturday",
+        DayType::SundayOrHoliday => "sunday",
     }
 }
 
-fn day_type<W: Write>(out: &mut W, s: &[u8], from: Cursor) -> io::Result<Cursor>
-    ensures { IfOk result (λ next. Onward from next) }
+fn day_type(input: &mut Input) -> Result<Result<&'static str, Refusal>, Malformed>
+    ensures { length input.new ≤ length input.old }
 {
-    let mut days = values_from_bytes::holiday_room();
-    let day = values_from_bytes::read_day(s, from, &mut days);
-    let n = day.holidays;
-    let next = day.next;
-    if next.ok {
-        print_day_type(out, calendar::day_type(day.value, &days[..n]))?;
-    }
-    Ok(next)
+    let mut room = numbers::repeat::<_, MOST_HOLIDAYS>(0);
+    let day = u32::read(input)?;
+    let holidays = read_list::<u16, u32>(input, &mut room)?;
+    Ok(calendar::day_type(day, holidays).map(name_of))
 }
 
-fn print_month<W: Write>(out: &mut W, answer: MonthAnswer) -> io::Result<()> {
-    match answer {
-        MonthAnswer::Refused(n) => output::refused(out, n),
-        MonthAnswer::Figures {
+// A month's numbers.
+#[derive(Clone, Copy)]
+struct Month(MonthFigures);
+
+impl fmt::Display for Month {
+    fn fmt<W: fmt::Write>(&self, f: &mut fmt::Formatter<W>) -> fmt::Result {
+        let MonthFigures {
             first,
             days,
             mask,
             working,
-        } => {
-            output::text(out, b"month")?;
-            output::number(out, first as u64)?;
-            output::number(out, days as u64)?;
-            output::number(out, mask as u64)?;
-            output::number(out, working as u64)?;
-            output::end(out)
+        } = self.0;
+        write!(f, "{first} {days} {mask} {working}")
+    }
+}
+
+fn month(input: &mut Input) -> Result<Result<Month, Refusal>, Malformed>
+    ensures { length input.new ≤ length input.old }
+{
+    let mut room = numbers::repeat::<_, MOST_HOLIDAYS>(0);
+    let day = u32::read(input)?;
+    let holidays = read_list::<u16, u32>(input, &mut room)?;
+    Ok(months::month_figures(day, holidays).map(Month))
+}
+
+// ---- the operations
+
+#[derive(Clone, Copy)]
+struct Estimates;
+
+impl Program for Estimates {
+    // (A match on the byte: an enum of the operations would be a second table of them, read here alone.)
+    fn step<W: Write>(&mut self, out: &mut W, input: &mut Input) -> Result<(), Stop> {
+        match u8::read(input)? {
+            1 => output::answer(out, "telemetered", telemetered(input)?)?,
+            2 => output::answer(out, "type1", toll_34(input)?)?,
+            3 => output::answer(out, "type1", other_toll(input)?)?,
+            4 => output::answer(out, "type2", type_2(input)?)?,
+            5 => output::answer(out, "profile", profile(input)?)?,
+            6 => output::answer(out, "degree-days", degree_days(input)?)?,
+            7 => output::answer(out, "zone", zone(input)?)?,
+            8 => output::answer(out, "province", province(input)?)?,
+            9 => spread(out, input)?,
+            10 => output::answer(out, "day-type", day_type(input)?)?,
+            11 => output::answer(out, "month", month(input)?)?,
+            _ => return Err(Stop::Malformed),
         }
+        Ok(())
     }
 }
 
-fn month<W: Write>(out: &mut W, s: &[u8], from: Cursor) -> io::Result<Cursor>
-    ensures { IfOk result (λ next. Onward from next) }
-{
-    let mut days = values_from_bytes::holiday_room();
-    let day = values_from_bytes::read_day(s, from, &mut days);
-    let n = day.holidays;
-    let next = day.next;
-    if next.ok {
-        print_month(out, months::month_figures(day.value, &days[..n]))?;
-    }
-    Ok(next)
-}
-
-// ---- the run
-
-// The call that a byte stands for, with its arguments.
-fn call<W: Write>(out: &mut W, s: &[u8], from: Cursor, byte: u64) -> io::Result<Cursor>
-    ensures { IfOk result (λ next. Onward from next) }
-{
-    match byte {
-        1 => telemetered(out, s, from),
-        2 => toll_34(out, s, from),
-        3 => other_toll(out, s, from),
-        4 => type_2(out, s, from),
-        5 => profile(out, s, from),
-        6 => degree_days(out, s, from),
-        7 => zone(out, s, from),
-        8 => province(out, s, from),
-        9 => spread(out, s, from),
-        10 => day_type(out, s, from),
-        11 => month(out, s, from),
-        _ => Ok(cursor::failed(from)),
-    }
-}
-
-// One operation: its byte and its arguments.
-fn step<W: Write>(out: &mut W, s: &[u8], from: Cursor) -> io::Result<Cursor>
-    ensures { IfOk result (λ next. Moved from next) }
-{
-    let operation = cursor::read_u8(s, from);
-    let next = operation.next;
-    if !next.ok {
-        return Ok(next);
-    }
-    call(out, s, next, operation.value)
-}
-
-// The operations one after the other.
-pub fn run<W: Write>(out: &mut W, s: &[u8]) -> io::Result<()> {
-    let mut next = cursor::start();
-    while cursor::has_left(s, next, 1) {
-        next = step(out, s, next)?;
-    }
-    console::end_run(out, next)
-}
-
-// The same from all of an input.
+// Runs the operations of all of an input.
 pub fn run_input<R: Read, W: Write>(input: &mut R, out: &mut W) -> io::Result<()> {
-    let mut room = console::input_room();
-    let n = console::read_input(input, out, &mut room)?;
-    run(out, &room[..n])
+    console::run(&mut Estimates, input, out)
 }

@@ -3,18 +3,18 @@ use mathlib.Core.Path.{◌≡◌, refl, sym, ap, ap₂, ◌∙◌, subst}
 use mathlib.Core.Bool.{Bool, true, false}
 use mathlib.Core.List.{List, [], ◌∷◌, map}
 use mathlib.Core.Logic.{⊎_elim}
-use Prim.Native.Nat.{ℕ, zero, suc, ◌+◌, ◌-◌, ◌*◌, ◌^◌, ◌≤◌, ◌<◌}
+use Prim.Native.Nat.{ℕ, zero, suc, ◌+◌, ◌*◌, ◌^◌, ◌≤◌, ◌<◌}
 use native.Mathlib.Omega.{arith}
 use native.Mathlib.Nat.{suc-mul, add-mul, one-mul}
-use lib.Dec.{T, ltb, leb, eqb}
+use lib.Dec.{T, ltb, leb}
 use lib.IntN.{ℤ, pos, negsuc, neg_ℤ, nat_abs, sub_ℕ, ◌+ℤ◌, ◌-ℤ◌, +ℤ_assoc, +ℤ_comm, -ℤ-+ℤ_cancel}
-use lib.Signed.{mag, lt_z, le_z}
-use borrow.Author.Tests.{ltb-true, ltb-false, lt-ltb, le-ltb, leb-true, le-leb, ne_eqb}
+use lib.Signed.{mag, lt_z}
+use borrow.Author.Tests.{ltb-true, ltb-false, le-ltb, leb-true}
 use mir.Syntax.{w64}
-use mir.Val.{Fits, SFits, of_z, to_z}
+use mir.Val.{SFits, of_z, to_z}
 use mir.Facts.{to_z-of_z}
 use Rattle.numbers.specs.Sums.{sumZ, total, totalZ}
-use Rattle.numbers.specs.Amounts.{SAFE, Within, is_negative, signed}
+use Rattle.numbers.specs.Amounts.{Within, is_negative, signed}
 use Rattle.numbers.proofs.Sums.{cases, sumZ_more}
 use Rattle.numbers.proofs.Lists.{All}
 
@@ -65,73 +65,35 @@ pub lt_zero : (z : ℤ) → lt_z z (pos 0) ≡ is_negative z
 lt_zero (pos n) = le-ltb n 0 (omega arith)
 lt_zero (negsuc n) = refl
 
--- below -m, with m = k + 1
-pub below : (z : ℤ) (k : ℕ) → lt_z z (negsuc k) ≡ true → suc k < nat_abs z
-below (pos n) k e = absurd (subst T (sym e) tt)
-below (negsuc n) k e = omega (arith, ltb-true k n e)
-
--- above m
-pub above : (z : ℤ) (m : ℕ) → lt_z (pos m) z ≡ true → m < nat_abs z
-above (pos n) m e = ltb-true m n e
-above (negsuc n) m e = absurd (subst T (sym e) tt)
-
--- neither
+-- neither below -m nor above m, with m = k + 1
 pub between : (z : ℤ) (k : ℕ) → lt_z z (negsuc k) ≡ false → lt_z (pos (suc k)) z ≡ false → nat_abs z ≤ suc k
 between (pos n) k e f = ltb-false (suc k) n f
 between (negsuc n) k e f = omega (arith, ltb-false k n e)
 
 -- ---- the size and the sign
 
-pub neg_size : (z : ℤ) → is_negative z ≡ true → pos 0 -ℤ z ≡ pos (nat_abs z)
-neg_size (pos n) e = absurd (subst T (sym e) tt)
-neg_size (negsuc n) e = ap pos (omega arith)
-
 pub pos_size : (z : ℤ) → is_negative z ≡ false → z ≡ pos (nat_abs z)
 pos_size (pos n) e = refl
 pos_size (negsuc n) e = absurd (subst T e tt)
 
-pub zero_sub : (n : ℕ) → pos 0 -ℤ pos n ≡ neg_ℤ (pos n)
-zero_sub zero = refl
-zero_sub (suc n) = rw (lt-ltb 0 (suc n) (omega arith)) (ap negsuc (omega arith))
-
 -- ---- sums
 
-pub within_sum : (m : ℕ) (f : ℕ → ℤ) → ((i : ℕ) → Within m (f i)) → (n : ℕ) → Within (n * m) (sumZ f n)
+pub within_first : (m : ℕ) (f : ℕ → ℤ) (n : ℕ) → ((i : ℕ) → i < n → Within m (f i)) → Within (n * m) (sumZ f n)
 unfolding sumZ
-within_sum m f h zero = record { size = omega arith }
-within_sum m f h (suc n) = widen (within_add (within_sum m f h n) (h n)) (omega (arith, suc-mul n m))
+within_first m f zero h = record { size = omega arith }
+within_first m f (suc n) h = widen (within_add (within_first m f n (λ i l. h i (omega arith))) (h n (omega arith))) (omega (arith, suc-mul n m))
 
--- ---- casts of a size
-
-pub sfits_pos : {z : ℤ} → Within SAFE z → SFits w64 (pos (nat_abs z))
-sfits_pos h = record { sfits = omega (arith, h.size) }
-
-pub fits_size : {z : ℤ} → Within SAFE z → Fits w64 (nat_abs z)
-fits_size h = record { fits = omega (arith, h.size) }
+pub within_sum : (m : ℕ) (f : ℕ → ℤ) → ((i : ℕ) → Within m (f i)) → (n : ℕ) → Within (n * m) (sumZ f n)
+within_sum m f h n = within_first m f n (λ i l. h i)
 
 pub within_pos : (m : ℕ) → Within m (pos m)
 within_pos m = record { size = omega arith }
 
 -- ---- one turn of a sum: s holds the bits of the sum so far
 
-module _ (m : ℕ) (f : ℕ → ℤ) (h : (i : ℕ) → Within m (f i)) (i s : ℕ) (e : to_z w64 s ≡ sumZ f i) (l : (i + 1) * m < 2 ^ 63) where
-  pub turn : to_z w64 s +ℤ to_z w64 (of_z w64 (f i)) ≡ sumZ f (i + 1)
-  turn = ap₂ ◌+ℤ◌ e (back (h i) (omega (arith, add-mul i 1 m, one-mul m))) ∙ sym (sumZ_more f i)
-
-  pub turn_fits : SFits w64 (to_z w64 s +ℤ to_z w64 (of_z w64 (f i)))
-  turn_fits = rw turn (sfits (within_sum m f h (i + 1)) l)
-
-  pub turn_kept : to_z w64 (of_z w64 (to_z w64 s +ℤ to_z w64 (of_z w64 (f i)))) ≡ sumZ f (i + 1)
-  turn_kept = to_z-of_z turn_fits ∙ turn
-
--- the same where only the first n are known to be small
-pub within_first : (m : ℕ) (f : ℕ → ℤ) (n : ℕ) → ((i : ℕ) → i < n → Within m (f i)) → Within (n * m) (sumZ f n)
-unfolding sumZ
-within_first m f zero h = record { size = omega arith }
-within_first m f (suc n) h = widen (within_add (within_first m f n (λ i l. h i (omega arith))) (h n (omega arith))) (omega (arith, suc-mul n m))
-
+-- where the amounts up to this one are known to be small
 module _ (m : ℕ) (f : ℕ → ℤ) (i : ℕ) (h : (j : ℕ) → j < i + 1 → Within m (f j)) (s : ℕ) (e : to_z w64 s ≡ sumZ f i) (l : (i + 1) * m < 2 ^ 63) where
-  pub next_turn : to_z w64 s +ℤ to_z w64 (of_z w64 (f i)) ≡ sumZ f (i + 1)
+  next_turn : to_z w64 s +ℤ to_z w64 (of_z w64 (f i)) ≡ sumZ f (i + 1)
   next_turn = ap₂ ◌+ℤ◌ e (back (h i (omega arith)) (omega (arith, add-mul i 1 m, one-mul m))) ∙ sym (sumZ_more f i)
 
   pub next_turn_fits : SFits w64 (to_z w64 s +ℤ to_z w64 (of_z w64 (f i)))
@@ -140,9 +102,13 @@ module _ (m : ℕ) (f : ℕ → ℤ) (i : ℕ) (h : (j : ℕ) → j < i + 1 → 
   pub next_turn_kept : to_z w64 (of_z w64 (to_z w64 s +ℤ to_z w64 (of_z w64 (f i)))) ≡ sumZ f (i + 1)
   next_turn_kept = to_z-of_z next_turn_fits ∙ next_turn
 
--- ---- equal bits
+-- where all are
+module _ (m : ℕ) (f : ℕ → ℤ) (h : (i : ℕ) → Within m (f i)) (i s : ℕ) (e : to_z w64 s ≡ sumZ f i) (l : (i + 1) * m < 2 ^ 63) where
+  pub turn_fits : SFits w64 (to_z w64 s +ℤ to_z w64 (of_z w64 (f i)))
+  turn_fits = next_turn_fits m f i (λ j k. h j) s e l
 
--- ---- a minus
+  pub turn_kept : to_z w64 (of_z w64 (to_z w64 s +ℤ to_z w64 (of_z w64 (f i)))) ≡ sumZ f (i + 1)
+  turn_kept = next_turn_kept m f i (λ j k. h j) s e l
 
 -- ---- a test that is known to be passed
 
@@ -152,10 +118,6 @@ within_test {m} z e = record { size = leb-true (nat_abs z) m e }
 pub within_sign : (p : Bool) (n : ℕ) → Within n (signed p n)
 within_sign true n = within_neg (within_pos n)
 within_sign false n = within_pos n
-
-pub zero_bits : (z : ℤ) → SFits w64 z → eqb (of_z w64 z) 0 ≡ eqb (nat_abs z) 0
-zero_bits (pos n) h = refl
-zero_bits (negsuc n) h = ne_eqb (2 ^ 64 - suc n) 0 (λ e. omega (arith, h.sfits)) ∙ sym (ne_eqb (suc n) 0 (λ e. omega arith))
 
 -- ---- sums and differences
 
@@ -188,15 +150,3 @@ pub sum_nonneg : (zs : List ℤ) → All NonNeg zs → totalZ zs ≡ pos (total 
 unfolding totalZ total
 sum_nonneg [] h = refl
 sum_nonneg (z ∷ zs) h = ap₂ ◌+ℤ◌ (pos_size z h.0) (sum_nonneg zs h.1)
-
--- ---- at most m in size
-
-pub below_size : (z : ℤ) (m : ℕ) → lt_z z (neg_ℤ (pos m)) ≡ true → m < nat_abs z
-below_size (pos n) zero e = absurd (subst T (sym e ∙ lt_zero (pos n)) tt)
-below_size (negsuc n) zero e = omega arith
-below_size z (suc k) e = below z k e
-
-pub above_size : (z : ℤ) (m : ℕ) → lt_z z (neg_ℤ (pos m)) ≡ false → le_z z (pos m) ≡ leb (nat_abs z) m
-above_size (pos n) m e = refl
-above_size (negsuc n) zero e = absurd (subst T e tt)
-above_size (negsuc n) (suc k) e = sym (le-leb (suc n) (suc k) (omega (arith, ltb-false k n e)))

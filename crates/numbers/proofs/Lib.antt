@@ -2,6 +2,7 @@ pub mod Sums
 pub mod Filled
 pub mod Lists
 pub mod Buckets
+pub mod Chains
 pub mod Places
 pub mod Refusals
 pub mod Totals

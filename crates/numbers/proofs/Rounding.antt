@@ -2,7 +2,7 @@
 use mathlib.Core.Path.{◌≡◌, sym, ap, ◌∙◌}
 use Prim.Native.Nat.{ℕ, ◌+◌, ◌-◌, ◌*◌, ◌/◌, ◌%◌, ◌≤◌, ◌<◌}
 use native.Mathlib.Omega.{arith}
-use native.Mathlib.Nat.{div-add-mod, mod-lt, mul_comm, mul_assoc, add-mul, mul-le-mul_right, one-mul, lt_of_mul-lt-mul_left}
+use native.Mathlib.Nat.{div-add-mod, mod-lt, mul_comm, mul_assoc, add-mul, lt_of_mul-lt-mul_left}
 use Rattle.numbers.specs.Nearest.{nearest, IsNearest}
 
 -- 2 * d * x, in the order of the law
@@ -47,7 +47,3 @@ module _ (n d : ℕ) (some : 0 < d) where
       let y = nearest n d in
       let b : y < m + 1 = lt_of_mul-lt-mul_left (2 * d) {m = y} {n = m + 1} (omega (arith, nearest_is.above, twice d y, twice d (m + 1), add-mul m 1 d)) in
       omega arith
-
-  -- one more than the quotient is still at most n, where the remainder asks for it
-  pub step_fits : d - n % d ≤ n % d → n / d + 1 ≤ n
-  step_fits l = omega (arith, div-add-mod n d, mod-lt n some, mul-le-mul_right (n / d) some, one-mul (n / d))

@@ -140,7 +140,7 @@ pub fn nearest(n: u64, d: u64) -> u64
 pub fn is_negative(x: i64) -> bool
     ensures { result ≡ is_negative x }
 {
-    x < 0
+    x.is_negative()
 }
 
 // Whether x is 0.
@@ -155,7 +155,7 @@ pub fn size(x: i64) -> u64
     requires { Within SAFE x }
     ensures { result ≡ nat_abs x }
 {
-    if x < 0 { (0 - x) as u64 } else { x as u64 }
+    x.unsigned_abs()
 }
 
 // The size with a sign.
@@ -163,11 +163,8 @@ pub fn with_sign(negative: bool, size: u64) -> i64
     requires { size ≤ SAFE }
     ensures { result ≡ signed negative size }
 {
-    if negative {
-        0 - (size as i64)
-    } else {
-        size as i64
-    }
+    let size = size as i64;
+    if negative { -size } else { size }
 }
 
 // Whether x is at most `limit` in size. Any x will do, also the least of 64 bits.
@@ -175,11 +172,7 @@ pub fn size_at_most(x: i64, limit: u64) -> bool
     requires { limit ≤ SAFE }
     ensures { result ≡ leb (nat_abs x) limit }
 {
-    let high = limit as i64;
-    if x < 0 - high {
-        return false;
-    }
-    x <= high
+    x.unsigned_abs() <= limit
 }
 
 // The sum of two amounts.
@@ -215,10 +208,7 @@ pub fn all_between(xs: &[i64], from: usize, low: i64, high: i64) -> bool
     ensures { Decides result ((i : ℕ) → from ≤ i → i < length xs.now → Between low high (atZ xs.now i)) }
 {
     for i in from..xs.len() {
-        if xs[i] < low {
-            return false;
-        }
-        if high < xs[i] {
+        if xs[i] < low || high < xs[i] {
             return false;
         }
     }

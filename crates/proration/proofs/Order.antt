@@ -4,8 +4,8 @@ use mathlib.Core.Bool.{Bool, true, false}
 use mathlib.Core.Logic.{⊎_elim, ◌⊎◌, inl, inr}
 use Prim.Native.Nat.{ℕ, ◌≤◌, ◌<◌}
 use native.Mathlib.Omega.{arith}
-use lib.Dec.{ltb, leb, eqb}
-use borrow.Author.Tests.{ltb-true, lt-ltb, le-ltb, le-leb, lt-leb, eqb-true, eq-eqb, ne_eqb}
+use lib.Dec.{ltb, eqb}
+use borrow.Author.Tests.{ltb-true, lt-ltb, le-ltb, eqb-true, eq-eqb}
 use Rattle.numbers.specs.Sums.{bit, pick}
 use Rattle.proration.specs.Proration.{ahead}
 use Rattle.numbers.proofs.Sums.{cases, lt_or_ge}
@@ -26,23 +26,6 @@ is_ahead r k r' k' e =
 pub go_ahead : (r k r' k' : ℕ) → Ahead r k r' k' → ahead r k r' k' ≡ true
 go_ahead r k r' k' (inl l) = rw (lt-ltb r' r l)
 go_ahead r k r' k' (inr e) = rw (le-ltb r' r (omega arith), eq-eqb r r' e.0, lt-ltb k k' e.1)
-
--- by the keys first: of the lower key it is ahead also where the remainders are equal
-pub lower_key : (r k r' k' : ℕ) → k < k' → ahead r k r' k' ≡ leb r' r
-lower_key r k r' k' l =
-    ⊎_elim (λ m. rw (lt-ltb r' r m, le-leb r' r (omega arith)))
-    (λ m. ⊎_elim (λ e. rw (le-ltb r' r m, eq-eqb r r' e, lt-ltb k k' l, le-leb r' r (omega arith))) (λ n. rw (le-ltb r' r m, ne_eqb r r' (λ e. omega arith), lt-leb r' r n)) (eq_or_lt m))
-    (lt_or_ge r' r)
-  where
-    eq_or_lt : r ≤ r' → (r ≡ r') ⊎ (r < r')
-    eq_or_lt m = ⊎_elim (λ n. inr n) (λ n. inl (omega arith)) (lt_or_ge r r')
-
-pub higher_key : (r k r' k' : ℕ) → k' ≤ k → ahead r k r' k' ≡ ltb r' r
-higher_key r k r' k' l = ⊎_elim (λ m. rw (lt-ltb r' r m)) (λ m. rw (le-ltb r' r m, le-ltb k k' l) (neither (eqb r r'))) (lt_or_ge r' r)
-  where
-    neither : (p : Bool) → pick p false false ≡ false
-    neither true = refl
-    neither false = refl
 
 pub irr : (r k : ℕ) → ahead r k r k ≡ false
 irr r k = ⊎_elim (λ e. ⊎_elim (λ t. absurd (omega arith)) (λ t. absurd (omega arith)) (is_ahead r k r k e)) (λ e. e) (cases (ahead r k r k))

@@ -1,29 +1,13 @@
 -- The tests of `split`, and what follows from them. Assumes nothing.
-use Rattle.std.proofs.Common.{◌≡◌, ℕ, zero, suc, ◌<◌, ◌≤◌, Bool, true, false, eqb, ltb, leb, List, [], ◌∷◌, ◌++◌, length, drop, ℤ, nat_abs, sym, refl, ap, arith, ltb-true, le-ltb, lt-ltb, eq-eqb, ne_eqb, eqb-true, le-leb, leb-true}
-use borrow.Author.Tests.{lt-leb}
-use Rattle.numbers.specs.Sums.{at, Bounded}
-use Rattle.numbers.specs.Lists.{both, every, distinct}
+use Rattle.std.proofs.Common.{◌≡◌, ℕ, zero, suc, ◌<◌, ◌≤◌, true, false, eqb, ltb, leb, List, [], ◌∷◌, ◌++◌, length, drop, ℤ, nat_abs, arith, ltb-true, le-ltb, lt-ltb, eqb-true, leb-true}
+use Rattle.numbers.specs.Sums.{Bounded}
+use Rattle.numbers.specs.Lists.{every, distinct}
 use Rattle.numbers.specs.Amounts.{Within}
-use Rattle.numbers.proofs.Lists.{both_fst, both_snd, both_true}
+use Rattle.numbers.proofs.Lists.{both_fst, both_snd}
 use Rattle.proration.specs.Proration.{PARTIES, LARGEST_AMOUNT, LARGEST_WEIGHT, prorateZ}
 use Rattle.split.specs.Call.{in_range, answer, after}
 
 -- `every` by places
-
-pub every_below : (m : ℕ) (xs : List ℕ) → ((k : ℕ) → k < length xs → at xs k ≤ m) → every (λ x. leb x m) xs ≡ true
-unfolding every
-every_below m [] h = refl
-every_below m (x ∷ xs) h = both_true (le-leb x m (h 0 (omega arith))) (every_below m xs (λ k l. h (suc k) (omega arith)))
-
-pub every_above : (m : ℕ) (xs : List ℕ) (i : ℕ) → i < length xs → m < at xs i → every (λ x. leb x m) xs ≡ false
-unfolding every
-every_above m [] i l h = absurd (omega arith)
-every_above m (x ∷ xs) zero l h = ap (λ t. both t (every (λ y. leb y m) xs)) (lt-leb x m h)
-every_above m (x ∷ xs) (suc i) l h = last (leb x m) (every_above m xs i (omega arith) h)
-  where
-    last : (p : Bool) {q : Bool} → q ≡ false → both p q ≡ false
-    last true e = e
-    last false e = refl
 
 every_bounded : (m : ℕ) (xs : List ℕ) → every (λ x. leb x m) xs ≡ true → Bounded m xs
 unfolding every
@@ -58,33 +42,6 @@ module _ (z : ℤ) (ws ks : List ℕ) where
         apart = both_snd w _ h₄;
         weights = every_bounded LARGEST_WEIGHT ws (both_fst w _ h₄);
       }
-
-  -- the tests one after the other
-  pub no_amount : leb (nat_abs z) LARGEST_AMOUNT ≡ false → in_range z ws ks ≡ false
-  unfolding in_range
-  no_amount h = rw h
-
-  module _ (a : leb (nat_abs z) LARGEST_AMOUNT ≡ true) where
-    pub no_party : length ws ≡ 0 → in_range z ws ks ≡ false
-    unfolding in_range
-    no_party h = rw (a, le-ltb 0 (length ws) (omega arith))
-
-    pub too_many : 0 < length ws → PARTIES < length ws → in_range z ws ks ≡ false
-    unfolding in_range
-    too_many s h = rw (a, lt-ltb 0 (length ws) s, lt-leb (length ws) PARTIES h)
-
-    pub no_key : 0 < length ws → length ws ≤ PARTIES → (length ks ≡ length ws → ⊥) → in_range z ws ks ≡ false
-    unfolding in_range
-    no_key s f h = rw (a, lt-ltb 0 (length ws) s, le-leb (length ws) PARTIES f, ne_eqb (length ws) (length ks) (λ e. h (sym e)))
-
-    module _ (s : 0 < length ws) (f : length ws ≤ PARTIES) (k : length ks ≡ length ws) where
-      pub no_weight : every (λ w. leb w LARGEST_WEIGHT) ws ≡ false → in_range z ws ks ≡ false
-      unfolding in_range
-      no_weight h = rw (a, lt-ltb 0 (length ws) s, le-leb (length ws) PARTIES f, eq-eqb (length ws) (length ks) (sym k), h)
-
-      pub by_keys : every (λ w. leb w LARGEST_WEIGHT) ws ≡ true → in_range z ws ks ≡ distinct ks
-      unfolding in_range
-      by_keys h = rw (a, lt-ltb 0 (length ws) s, le-leb (length ws) PARTIES f, eq-eqb (length ws) (length ks) (sym k), h)
 
   -- what the call answers and leaves
   module _ (out : List ℤ) where

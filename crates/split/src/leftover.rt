@@ -13,11 +13,9 @@ fn serve_ranked(rems: &[u64], keys: &[u64], left: u64, shares: &mut [u64])
     requires by_index { (i : ℕ) → i < length rems.now → at shares.old i ≤ LARGEST_AMOUNT }
     ensures { shares.new ≡ table (topped (at shares.old) (at rems.now) (at keys.now) left (length rems.now)) (length rems.now) ++ drop (length rems.now) shares.old }
 {
-    let mut i = 0;
-    while i < rems.len() {
-        shares[i] = shares[i]
-            + proration::one_if_less(proration::count_ahead(rems, keys, rems[i], keys[i]), left);
-        i += 1;
+    for i in 0..rems.len() {
+        let ahead = proration::count_ahead(rems, keys, rems[i], keys[i]);
+        shares[i] += u64::from(ahead < left);
     }
 }
 
@@ -28,15 +26,15 @@ fn serve_ranked(rems: &[u64], keys: &[u64], left: u64, shares: &mut [u64])
 fn is_less(a: u64, b: u64) -> u64
     ensures { result ≤ 1 }
 {
-    std::num::wrapping_sub_u64(a, b) >> 63
+    a.wrapping_sub(b) >> 63
 }
 
 // 1 if the remainder r is x and its key k is below y, else 0.
 fn is_tied(r: u64, k: u64, x: u64, y: u64) -> u64
     ensures { result ≤ 1 }
 {
-    let same = std::num::wrapping_sub_u64(r ^ x, 1);
-    (same & std::num::wrapping_sub_u64(k, y)) >> 63
+    let same = (r ^ x).wrapping_sub(1);
+    (same & k.wrapping_sub(y)) >> 63
 }
 
 // How many remainders are above x.
@@ -44,10 +42,8 @@ fn count_above(rems: &[u64], x: u64) -> u64
     ensures { result ≤ length rems.now }
 {
     let mut count: u64 = 0;
-    let mut j = 0;
-    while j < rems.len() {
-        count += is_less(x, rems[j]);
-        j += 1;
+    for &r in rems {
+        count += is_less(x, r);
     }
     count
 }
@@ -58,61 +54,24 @@ fn count_tied(rems: &[u64], keys: &[u64], x: u64, y: u64) -> u64
     ensures { result ≤ length rems.now }
 {
     let mut count: u64 = 0;
-    let mut j = 0;
-    while j < rems.len() {
+    for j in 0..rems.len() {
         count += is_tied(rems[j], keys[j], x, y);
-        j += 1;
     }
     count
 }
 
-// The lesser of two numbers, and the greater.
-fn lesser(a: u64, b: u64) -> u64 {
-    if a < b { a } else { b }
-}
-
-fn greater(a: u64, b: u64) -> u64 {
-    if a < b { b } else { a }
-}
-
-// The least number.
-fn least(xs: &[u64]) -> u64 {
-    let mut x = u64::MAX;
-    let mut i = 0;
-    while i < xs.len() {
-        x = lesser(x, xs[i]);
-        i += 1;
-    }
-    x
-}
-
-// The largest number.
-fn largest(xs: &[u64]) -> u64 {
-    let mut x = 0;
-    let mut i = 0;
-    while i < xs.len() {
-        x = greater(x, xs[i]);
-        i += 1;
-    }
-    x
-}
-
 // A remainder with `left` remainders above it, by trying each; where equal remainders stand at that place, 0.
 fn cut_of_few(rems: &[u64], left: u64) -> u64 {
-    let mut i = 0;
-    while i < rems.len() {
-        if count_above(rems, rems[i]) == left {
-            return rems[i];
-        }
-        i += 1;
-    }
-    0
+    rems.iter()
+        .copied()
+        .find(|&x| count_above(rems, x) == left)
+        .unwrap_or(0)
 }
 
 // A number with `left` remainders above it, by halving; where equal remainders stand at that place, these.
 fn cut_of_many(rems: &[u64], left: u64) -> u64 {
-    let mut low = least(rems);
-    let mut high = largest(rems);
+    let mut low = rems.iter().copied().fold(u64::MAX, u64::min);
+    let mut high = rems.iter().copied().fold(0, u64::max);
     while low < high {
         let middle = low + (high - low) / 2;
         let above = count_above(rems, middle);
@@ -134,15 +93,13 @@ fn key_by_place(rems: &[u64], keys: &[u64], x: u64, nth: u64) -> u64
     requires { length rems.now ≤ length keys.now }
 {
     let mut more = nth;
-    let mut i = 0;
-    while i < rems.len() {
-        if rems[i] == x {
+    for (&r, &key) in rems.iter().zip(keys) {
+        if r == x {
             if more == 0 {
-                return keys[i];
+                return key;
             }
             more -= 1;
         }
-        i += 1;
     }
     u64::MAX
 }
@@ -152,7 +109,7 @@ fn key_by_halving(rems: &[u64], keys: &[u64], x: u64, nth: u64) -> u64
     requires { length rems.now ≤ length keys.now }
 {
     let mut low: u64 = 0;
-    let mut high = largest(keys);
+    let mut high = keys.iter().copied().fold(0, u64::max);
     while low < high {
         let middle = low + (high - low) / 2;
         let ahead = count_tied(rems, keys, x, middle);
@@ -172,7 +129,7 @@ fn key_by_halving(rems: &[u64], keys: &[u64], x: u64, nth: u64) -> u64
 fn cut_key(rems: &[u64], keys: &[u64], x: u64, left: u64) -> u64
     requires { length rems.now ≤ length keys.now }
 {
-    let nth = std::num::wrapping_sub_u64(left, count_above(rems, x));
+    let nth = left.wrapping_sub(count_above(rems, x));
     let key = key_by_place(rems, keys, x, nth);
     if count_tied(rems, keys, x, key) == nth {
         return key;
@@ -186,10 +143,8 @@ fn serve_ahead(rems: &[u64], keys: &[u64], x: u64, y: u64, shares: &mut [u64])
     requires by_index { (i : ℕ) → i < length rems.now → at shares.old i ≤ LARGEST_AMOUNT }
     ensures { shares.new ≡ table (cut_at (at shares.old) (at rems.now) (at keys.now) x y) (length rems.now) ++ drop (length rems.now) shares.old }
 {
-    let mut i = 0;
-    while i < rems.len() {
-        shares[i] = shares[i] + proration::goes_before(rems[i], keys[i], x, y);
-        i += 1;
+    for i in 0..rems.len() {
+        shares[i] += u64::from(proration::goes_before(rems[i], keys[i], x, y));
     }
 }
 

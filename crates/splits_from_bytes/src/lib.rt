@@ -2,146 +2,79 @@
 // its shares are printed on a line. The first case that is cut short or out of range ends the run.
 #![tactic(auto)]
 
-ghost use Rattle.std.specs.Prelude.{◌≡◌, IfOk, length};
-ghost use Rattle.io.specs.Counts.{IsPrefixLen};
-ghost use Rattle.console.specs.Input.{Onward, Moved};
-ghost use Rattle.proration.specs.Proration.{PARTIES};
+ghost use Rattle.std.specs.Prelude.{◌≤◌, length};
 
-use console::cursor;
-use console::cursor::Cursor;
+use console::input::{Input, Malformed, Number};
+use console::{Program, Stop, input};
 use proration::PARTIES;
 use std::io;
 use std::io::{Read, Write};
 
-// The most characters of a line's number with the space before it, and of a line.
-const FIGURE: usize = 22;
-
-const TEXT: usize = 8064;
-
 // The next numbers of u32, as many as the list has places.
-fn read_numbers(s: &[u8], from: Cursor, numbers: &mut [u64]) -> Cursor
-    ensures { Onward from result }
+fn read_numbers(input: &mut Input, numbers: &mut [u64]) -> Result<(), Malformed>
+    ensures { length input.new ≤ length input.old }
 {
-    let mut next = from;
-    let mut i = 0;
-    while i < numbers.len() {
-        let n = cursor::read_u32(s, next);
-        numbers[i] = n.value;
-        next = n.next;
-        i += 1;
+    for x in numbers {
+        *x = u32::read(input)?.into();
     }
-    next
+    Ok(())
 }
 
-// What follows the i-th of n shares on its line.
-fn separator(i: usize, n: usize) -> u8 {
-    if i < n { b' ' } else { b'\n' }
-}
-
-// The shares on a line, as long as there is room; the answer is its length.
-fn put_line(shares: &[i64], text: &mut [u8]) -> usize
-    ensures { IsPrefixLen result text.new }
-{
-    let mut at = 0;
-    let mut i = 0;
-    while i < shares.len() {
-        if text.len() - at < FIGURE {
-            return at;
-        }
-        at = wire::put_decimal(text, at, shares[i]);
-        i += 1;
-        text[at] = separator(i, shares.len());
-        at += 1;
-    }
-    at
-}
-
-// Buffers. (Calls, so that no proof above sees their elements one by one.)
-fn line_buffer() -> [u8; TEXT]
-    ensures { 8064 ≡ length result }
-{
-    [0; TEXT]
-}
-
-fn numbers_buffer() -> [u64; PARTIES]
-    ensures { PARTIES ≡ length result }
-{
-    [0; PARTIES]
-}
-
-fn shares_buffer() -> [i64; PARTIES]
-    ensures { PARTIES ≡ length result }
-{
-    [0; PARTIES]
-}
-
+// The shares, if there are any, on a line.
 fn print_line<W: Write>(out: &mut W, shares: &[i64]) -> io::Result<()> {
-    let mut text = line_buffer();
-    let n = put_line(shares, &mut text);
-    out.write_all(&text[..n])
+    let Some((last, before)) = shares.split_last() else {
+        return Ok(());
+    };
+    for share in before {
+        write!(out, "{share} ")?;
+    }
+    writeln!(out, "{last}")
 }
 
-// The split of an amount over the next weights and keys: its shares are printed. What is out of range fails.
+// The split of an amount over the next weights and keys: its shares are printed. What is out of range is malformed.
 fn run_split<W: Write>(
     out: &mut W,
-    s: &[u8],
-    from: Cursor,
+    input: &mut Input,
     amount: i64,
     weights: &mut [u64],
     keys: &mut [u64],
     shares: &mut [i64],
-) -> io::Result<Cursor>
-    ensures { IfOk result (λ next. Onward from next) }
+) -> Result<(), Stop>
+    ensures { length input.new ≤ length input.old }
 {
-    let between = read_numbers(s, from, weights);
-    let next = read_numbers(s, between, keys);
-    if !next.ok {
-        return Ok(next);
-    }
-    if split::split(amount, weights, keys, shares) != 0 {
-        return Ok(cursor::failed(next));
+    read_numbers(input, weights)?;
+    read_numbers(input, keys)?;
+    if split::split(amount, weights, keys, shares).is_err() {
+        return Err(Stop::Malformed);
     }
     print_line(out, shares)?;
-    Ok(next)
-}
-
-// The next case.
-fn run_case<W: Write>(out: &mut W, s: &[u8], from: Cursor) -> io::Result<Cursor>
-    ensures { IfOk result (λ next. Moved from next) }
-{
-    let amount = cursor::read_u64(s, from);
-    let start = amount.next;
-    if !start.ok {
-        return Ok(start);
-    }
-    let parties = cursor::at_most(cursor::read_u16(s, start), PARTIES as u64);
-    let n = parties.value as usize;
-    let mut weights = numbers_buffer();
-    let mut keys = numbers_buffer();
-    let mut shares = shares_buffer();
-    run_split(
-        out,
-        s,
-        parties.next,
-        wire::to_signed(amount.value),
-        &mut weights[..n],
-        &mut keys[..n],
-        &mut shares[..n],
-    )
+    Ok(())
 }
 
 // The cases one after the other.
-pub fn run<W: Write>(out: &mut W, s: &[u8]) -> io::Result<()> {
-    let mut next = cursor::start();
-    while cursor::has_left(s, next, 1) {
-        next = run_case(out, s, next)?;
+#[derive(Clone, Copy)]
+struct Splits;
+
+impl Program for Splits {
+    fn step<W: Write>(&mut self, out: &mut W, input: &mut Input) -> Result<(), Stop> {
+        let amount = i64::read(input)?;
+        let count = u16::read(input)?;
+        let n = input::at_most(count.into(), PARTIES)?;
+        let mut weights = numbers::repeat::<_, PARTIES>(0);
+        let mut keys = numbers::repeat::<_, PARTIES>(0);
+        let mut shares = numbers::repeat::<_, PARTIES>(0);
+        run_split(
+            out,
+            input,
+            amount,
+            &mut weights[..n],
+            &mut keys[..n],
+            &mut shares[..n],
+        )
     }
-    console::end_run(out, next)
 }
 
-// The same from all of an input.
+// Runs them from all of an input.
 pub fn run_input<R: Read, W: Write>(input: &mut R, out: &mut W) -> io::Result<()> {
-    let mut room = console::input_room();
-    let n = console::read_input(input, out, &mut room)?;
-    run(out, &room[..n])
+    console::run(&mut Splits, input, out)
 }

@@ -142,10 +142,10 @@ pub fn emission_right(emission: u64, downstream: u64) -> bool
 }
 
 // Whether there is a measurement.
-pub fn is_measured(measurement: Measurement) -> bool
+pub fn is_measured(measurement: Option<Measurement>) -> bool
     ensures { result ≡ is_measured measurement }
 {
-    matches!(measurement, Measurement::Measured(_, _))
+    measurement.is_some()
 }
 
 // Whether the stage is provisional.
@@ -156,12 +156,12 @@ pub fn is_provisional(stage: Stage) -> bool
 }
 
 // Net emission; 0 if unmeasured.
-pub fn net(measurement: Measurement) -> u64
+pub fn net(measurement: Option<Measurement>) -> u64
     requires { measurement_right measurement ≡ true }
     ensures { (pos result ≡ net_of measurement) × (result ≤ LIMIT) }
 {
     match measurement {
-        Measurement::Unmeasured => 0,
-        Measurement::Measured(emission, downstream) => emission - downstream,
+        None => 0,
+        Some(measured) => measured.emission - measured.downstream,
     }
 }

@@ -1,6 +1,7 @@
 -- `calls_from_bytes::print_day` is safe: it shows a point-day that is taken, whose measurement and count are in range. Assumes nothing.
 use mathlib.Core.Bool.{Bool, false, not}
 use mathlib.Core.Path.{◌≡◌, sym, ◌∙◌}
+use native.Mathlib.Omega.{arith}
 use borrow.Author.Tests.{not-false}
 use Rattle.point_day.specs.Struct.{taken}
 use Rattle.point_day.specs.declared.PointDay.{PointDay}
@@ -12,8 +13,8 @@ shown d {b} e t = taken_facts d (sym e ∙ not-false b t)
 
 pub print_measurement-requires : goal.print_measurement-requires
 print_measurement-requires g c =
-    (shown c.args.day c.test_day-state.ensures.is c.if-not-state.false).measurement
+    (shown c.args.day.now c.test_day-state.ensures.is c.if-not-state.false).measurement
 
-pub print_users-requires : goal.print_users-requires
-print_users-requires g c =
-    (shown c.args.day c.test_day-state.ensures.is c.if-not-state.false).few
+pub print_user-requires : goal.print_user-requires
+print_user-requires g c =
+    let few = (shown c.args.day.now c.test_day-state.ensures.is c.if-not-state.false).few in omega (arith, few)

@@ -1,11 +1,11 @@
 -- `proration::count_ahead` meets its contract. Assumes nothing.
-use Rattle.numbers.proofs.Sums.{sum_none, sum_more, bit_small}
+use Rattle.numbers.proofs.Sums.{sum_none, sum_more, bit_one}
+use Rattle.numbers.proofs.Chains.{bit_of, bit_from}
 use Rattle.proration.proofs.Shares.{before_le}
 use mathlib.Core.Path.{◌≡◌, sym, ap₂, ◌∙◌}
-use Prim.Native.Nat.{◌+◌, ◌-◌}
+use Prim.Native.Nat.{◌+◌}
 use lib.ListN.{length}
-use Rattle.numbers.specs.Sums.{at}
-use Rattle.proration.specs.Proration.{ahead, before}
+use Rattle.proration.specs.Proration.{before}
 use native.Mathlib.Omega.{arith}
 use Rattle.proration.proofs.count_ahead.Goals as goal
 
@@ -16,13 +16,12 @@ loop-j-init c = (omega arith, sum_none _)
 pub overflow_add-count : goal.overflow_add-count
 overflow_add-count c =
     let s = c.args in
-    let j = c.loop-j.j in
-    omega (arith, before_le s.rems.now s.keys.now j s.x s.y, bit_small (ahead (at s.rems.now j) (at s.keys.now j) s.x s.y) c.goes_before-count.ensures)
+    omega (arith, before_le s.rems.now s.keys.now c.loop-j.j s.x s.y, c.from-count.ensures, bit_of c.goes_before.result, bit_one c.goes_before.result)
 
 pub loop-j-preserved : goal.loop-j-preserved
 unfolding before
 loop-j-preserved c =
-    (omega arith, ap₂ ◌+◌ c.loop-j.invariant.1 c.goes_before-count.ensures ∙ sym (sum_more _ c.loop-j.j))
+    (omega arith, ap₂ ◌+◌ c.loop-j.invariant.1 (bit_from c.from-count.ensures c.goes_before.ensures) ∙ sym (sum_more _ c.loop-j.j))
 
 pub returns : goal.returns
 returns c =

@@ -1,5 +1,5 @@
 use mathlib.Core.Path.{◌≡◌}
-use Prim.Native.Nat.{◌-◌, ◌≤◌}
+use Prim.Native.Nat.{◌≤◌}
 use lib.ListN.{length}
 use Rattle.numbers.specs.Sums.{at}
 use Rattle.proration.specs.Proration.{before}
@@ -7,6 +7,3 @@ use Rattle.proration.proofs.count_ahead.Given as goal
 
 abbrev pub invariant-loop-j : goal.invariant-loop-j
 invariant-loop-j l = (l.j ≤ length l.rems) × (l.count ≡ before (at l.rems) (at l.keys) l.j l.x l.y)
-
-abbrev pub decreases-loop-j : goal.decreases-loop-j
-decreases-loop-j l = length l.rems - l.j

@@ -5,7 +5,7 @@ use Rattle.numbers.proofs.Filled.{fill_none, fill_step, fill_end, fill_all}
 use Rattle.proration.proofs.Shares.{floors_le}
 use mathlib.Core.Path.{sym}
 use mathlib.Core.Path.{◌≡◌, refl, ◌∙◌}
-use Prim.Native.Nat.{◌+◌, ◌-◌}
+use Prim.Native.Nat.{◌+◌}
 use lib.ListN.{length}
 use Rattle.numbers.specs.Sums.{at}
 use Rattle.proration.specs.Proration.{floor}
@@ -17,12 +17,6 @@ loop-i-init c = (omega arith, sum_none _, fill_none _ _, fill_none _ _)
 
 pub overflow_mul-x : goal.overflow_mul-x
 overflow_mul-x c = omega (arith, mul-le-mul c.requires.amount_bound.0 (c.requires.amount_bound.3 c.loop-i.i))
-
-pub bounds-shares-i : goal.bounds-shares-i
-bounds-shares-i c = omega arith
-
-pub bounds-rems-i : goal.bounds-rems-i
-bounds-rems-i c = omega arith
 
 pub overflow_add-given : goal.overflow_add-given
 overflow_add-given c =
@@ -45,12 +39,6 @@ loop-i-preserved c =
       fill_step c.loop-i.invariant.2 (omega arith) refl,
       fill_step c.loop-i.invariant.3 (omega arith) refl,
     )
-
-pub shape_of-shares : goal.shape_of-shares
-shape_of-shares c = c.loop-i.invariant.2.long
-
-pub shape_of-rems : goal.shape_of-rems
-shape_of-rems c = c.loop-i.invariant.3.long
 
 pub returns : goal.returns
 returns c =

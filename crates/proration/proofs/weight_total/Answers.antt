@@ -1,27 +1,17 @@
--- `proration::weight_total` meets its contract. Assumes nothing.
-use Rattle.numbers.proofs.Sums.{sum_none, sum_more, total_sum}
-use mathlib.Core.Path.{◌≡◌, sym, ap, ◌∙◌}
-use Prim.Native.Nat.{◌-◌}
-use lib.ListN.{length}
-use Rattle.numbers.specs.Sums as S
-use Rattle.numbers.specs.Sums.{at}
-use native.Mathlib.Omega.{arith}
+-- `proration::weight_total` meets its contract: at most 366 weights have a sum that fits. Assumes nothing.
+use Rattle.std.proofs.Common.{rules, arith, ◌≡◌, ◌<◌, ◌^◌, ◌∙◌}
+use Rattle.std.specs.List.{sum}
+use Rattle.numbers.proofs.Chains.{sum_is_total, total_fits}
+use Rattle.proration.specs.Proration.{LARGEST_WEIGHT}
 use Rattle.proration.proofs.weight_total.Goals as goal
 
-pub loop-party-init : goal.loop-party-init
-loop-party-init c = (sum_none (at c.args.ws.now), omega arith, omega arith)
-
-pub overflow_add-sum : goal.overflow_add-sum
-overflow_add-sum c = omega (arith, c.requires.1 c.loop-party.party)
-
-pub loop-party-preserved : goal.loop-party-preserved
-loop-party-preserved c =
-    let i = c.loop-party.party in
+pub sum-requires-clause-fits : goal.sum-requires-clause-fits
+sum-requires-clause-fits c =
     let ws = c.args.ws.now in
-    (omega (arith, sum_more (at ws) i), omega arith, omega (arith, c.requires.1 i))
+    let h : sum ws < 2 ^ 64 = omega (arith, sum_is_total ws, total_fits LARGEST_WEIGHT ws c.requires.1) in
+    search (rules, h)
 
 pub returns : goal.returns
 returns c =
-    let ws = c.args.ws.now in
-    let e : c.loop-party.party ≡ length ws = omega arith in
-    c.loop-party.invariant.0 ∙ ap (S.sum (at ws)) e ∙ sym (total_sum ws)
+    let e : c.sum.result ≡ sum c.args.ws.now = search rules in
+    e ∙ sum_is_total c.args.ws.now

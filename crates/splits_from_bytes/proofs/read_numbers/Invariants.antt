@@ -1,10 +1,6 @@
-use mathlib.Core.Path.{◌≡◌}
-use Prim.Native.Nat.{◌-◌, ◌≤◌}
+use Prim.Native.Nat.{◌≤◌}
 use lib.ListN.{length}
 use Rattle.splits_from_bytes.proofs.read_numbers.Given as goal
 
-abbrev pub invariant-loop-i : goal.invariant-loop-i
-invariant-loop-i l = (l.i ≤ length l.initial.numbers) × (length l.numbers ≡ length l.initial.numbers) × (l.initial.next.at ≤ l.next.at)
-
-abbrev pub decreases-loop-i : goal.decreases-loop-i
-decreases-loop-i l = length l.initial.numbers - l.i
+abbrev pub invariant-loop-x : goal.invariant-loop-x
+invariant-loop-x l = length l.input ≤ length l.initial.input

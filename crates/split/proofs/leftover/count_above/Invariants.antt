@@ -1,9 +1,6 @@
 -- `split::leftover::count_above` meets its contract, and ends. Assumes nothing.
-use Rattle.std.proofs.Common.{◌-◌, ◌≤◌, length}
+use Rattle.std.proofs.Common.{◌≤◌, length}
 use Rattle.split.proofs.leftover.count_above.Given as goal
 
-abbrev pub invariant-loop-j : goal.invariant-loop-j
-invariant-loop-j l = (l.j ≤ length l.rems) × (l.count ≤ l.j)
-
-abbrev pub decreases-loop-j : goal.decreases-loop-j
-decreases-loop-j l = length l.rems - l.j
+abbrev pub invariant-loop-r : goal.invariant-loop-r
+invariant-loop-r l = (l.r-index ≤ length l.rems) × (l.count ≤ l.r-index)

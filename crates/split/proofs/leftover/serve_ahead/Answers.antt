@@ -1,8 +1,7 @@
 -- `split::leftover::serve_ahead` meets its contract. Assumes nothing.
-use Rattle.std.proofs.Common.{◌+◌, ap₂, arith}
-use Rattle.numbers.specs.Sums.{at}
-use Rattle.proration.specs.Proration.{ahead}
+use Rattle.std.proofs.Common.{◌+◌, ap₂, arith, refl}
 use Rattle.numbers.proofs.Sums.{bit_small}
+use Rattle.numbers.proofs.Chains.{bit_from}
 use Rattle.numbers.proofs.Filled.{fill_none, fill_step, fill_next, fill_end}
 use Rattle.split.proofs.leftover.serve_ahead.Goals as goal
 
@@ -16,13 +15,13 @@ overflow_add-shares c =
       arith,
       fill_next c.loop-i.invariant.1 0 (omega arith),
       c.requires.by_index i (omega arith),
-      bit_small (ahead (at c.args.rems.now i) (at c.args.keys.now i) c.args.x c.args.y) c.goes_before.ensures,
+      bit_small c.goes_before.result (bit_from c.from.ensures refl),
     )
 
 pub loop-i-preserved : goal.loop-i-preserved
 loop-i-preserved c =
     let inv = c.loop-i.invariant.1 in
-    (omega arith, fill_step inv (omega arith) (ap₂ ◌+◌ (fill_next inv 0 (omega arith)) c.goes_before.ensures))
+    (omega arith, fill_step inv (omega arith) (ap₂ ◌+◌ (fill_next inv 0 (omega arith)) (bit_from c.from.ensures c.goes_before.ensures)))
 
 pub returns : goal.returns
 returns c = fill_end c.loop-i.invariant.1 (omega arith)

@@ -1,7 +1,7 @@
 -- `split::leftover::serve_ranked` meets its contract. Assumes nothing.
-use Rattle.std.proofs.Common.{◌+◌, ltb, ap, ◌∙◌, ap₂, arith}
-use Rattle.numbers.specs.Sums.{bit}
+use Rattle.std.proofs.Common.{◌+◌, ltb, ap, ap₂, arith, refl}
 use Rattle.numbers.proofs.Sums.{bit_small}
+use Rattle.numbers.proofs.Chains.{bit_from}
 use Rattle.numbers.proofs.Filled.{fill_none, fill_step, fill_next, fill_end}
 use Rattle.split.proofs.leftover.serve_ranked.Goals as goal
 
@@ -14,7 +14,7 @@ overflow_add-shares c =
       arith,
       fill_next c.loop-i.invariant.1 0 (omega arith),
       c.requires.by_index c.loop-i.i (omega arith),
-      bit_small (ltb c.count_ahead.result c.args.left) c.one_if_less.ensures,
+      bit_small (ltb c.count_ahead-ahead.result c.args.left) (bit_from c.from.ensures refl),
     )
 
 pub loop-i-preserved : goal.loop-i-preserved
@@ -23,7 +23,7 @@ loop-i-preserved c =
     let inv = c.loop-i.invariant.1 in (
       omega arith,
       fill_step inv (omega arith)
-          (ap₂ ◌+◌ (fill_next inv 0 (omega arith)) (c.one_if_less.ensures ∙ ap (λ r. bit (ltb r left)) c.count_ahead.ensures)),
+          (ap₂ ◌+◌ (fill_next inv 0 (omega arith)) (bit_from c.from.ensures (ap (λ r. ltb r left) c.count_ahead-ahead.ensures))),
     )
 
 pub returns : goal.returns

@@ -1,4 +1,4 @@
-use Rattle.std.proofs.Common.{◌-◌, ◌≤◌, length}
+use Rattle.std.proofs.Common.{◌≤◌, length}
 use Rattle.numbers.specs.Sums.{at}
 use Rattle.proration.specs.Proration.{topped}
 use Rattle.numbers.proofs.Filled.{Filled}
@@ -6,6 +6,3 @@ use Rattle.split.proofs.leftover.serve_ranked.Given as goal
 
 abbrev pub invariant-loop-i : goal.invariant-loop-i
 invariant-loop-i l = (l.i ≤ length l.rems) × Filled (topped (at l.initial.shares) (at l.rems) (at l.keys) l.left (length l.rems)) l.initial.shares l.i l.shares
-
-abbrev pub decreases-loop-i : goal.decreases-loop-i
-decreases-loop-i l = length l.rems - l.i

@@ -1,0 +1,203 @@
+// Numbers read from the input one after the other, little-endian, and the buffer lent to a call.
+ghost use Rattle.std.specs.Prelude.{◌≡◌, ◌↔◌, ◌++◌, List, ℕ, ℤ, pos, ◌+◌, ◌*◌, ◌≤◌, ◌<◌, length, take, drop, IsTrue, IsOk, IfOk, OnOk, OnErr};
+ghost use Rattle.std.specs.Int.{w32, cast_signed};
+ghost use Rattle.numbers.specs.Sums.{bit};
+ghost use Rattle.wire.specs.Bytes.{little_endian, signed_64};
+ghost use Rattle.console.specs.Input.{spelled_in, MOST_LENT, lent};
+
+use std::marker::Model;
+
+// The most numbers of a buffer that a program lends to a call.
+pub const MOST_LENT: usize = 2000;
+
+// What is cut short, or has no meaning.
+#[derive(Clone, Copy, Debug, PartialEq, Eq)]
+pub struct Malformed;
+
+// What is still to be read of an input.
+#[derive(Clone, Drop)]
+pub struct Input<'a> {
+    rest: &'a [u8],
+}
+
+impl<'a> Model for Input<'a> {
+    ghost Value = { List ℕ };
+
+    ghost view = { λ input. input.rest.now };
+}
+
+impl<'a> Input<'a> {
+    // All of the bytes.
+    pub fn new(bytes: &'a [u8]) -> Input<'a>
+        ensures { result ≡ bytes.now }
+    {
+        Input { rest: bytes }
+    }
+
+    // Whether nothing is left.
+    pub fn is_empty(&self) -> bool
+        ensures { IsTrue result ↔ (length self.now ≡ 0) }
+    {
+        self.rest.is_empty()
+    }
+
+    // The next N bytes.
+    fn chunk<const N: usize>(&mut self) -> Result<[u8; N], Malformed>
+        ensures ok { IsOk result ↔ (N ≤ length self.old) }
+        ensures value { IfOk result (λ bytes. bytes ≡ take N self.old) }
+        ensures rest { OnOk result (self.new ≡ drop N self.old) }
+        ensures same { OnErr result (self.new ≡ self.old) }
+        ensures onward { length self.new ≤ length self.old }
+    {
+        match self.rest.split_first_chunk() {
+            Some((chunk, rest)) => {
+                self.rest = rest;
+                Ok(*chunk)
+            }
+            None => Err(Malformed),
+        }
+    }
+
+    // The next bytes, as many as are asked for.
+    pub fn bytes(&mut self, count: usize) -> Result<&'a [u8], Malformed>
+        ensures ok { IsOk result ↔ (count ≤ length self.old) }
+        ensures value { IfOk result (λ bytes. bytes.now ≡ take count self.old) }
+        ensures rest { OnOk result (self.new ≡ drop count self.old) }
+        ensures same { OnErr result (self.new ≡ self.old) }
+        ensures onward { length self.new ≤ length self.old }
+    {
+        match self.rest.split_at_checked(count) {
+            Some((bytes, rest)) => {
+                self.rest = rest;
+                Ok(bytes)
+            }
+            None => Err(Malformed),
+        }
+    }
+
+    // The next byte, which is 0 or 1.
+    pub fn flag(&mut self) -> Result<bool, Malformed>
+        ensures ok { IsOk result ↔ (1 ≤ length self.old) × (little_endian 1 self.old 0 < 2) }
+        ensures value { IfOk result (λ b. bit b ≡ little_endian 1 self.old 0) }
+        ensures rest { OnOk result (self.new ≡ drop 1 self.old) }
+        ensures onward { length self.new ≤ length self.old }
+    {
+        match u8::read(self)? {
+            0 => Ok(false),
+            1 => Ok(true),
+            _ => Err(Malformed),
+        }
+    }
+
+    // Fills the list with the next numbers. Where they are cut short it begins with those that were there.
+    pub fn fill<T: Number>(&mut self, list: &mut [T]) -> Result<(), Malformed>
+        ensures ok { IsOk result ↔ (T.size * length list.old ≤ length self.old) }
+        ensures value { OnOk result (list.new ≡ spelled_in T.size T.spelled self.old (length list.old)) }
+        ensures rest { OnOk result (self.new ≡ drop (T.size * length list.old) self.old) }
+        ensures cut_short { OnErr result ((k : ℕ) × (list.new ≡ spelled_in T.size T.spelled self.old k ++ drop k list.old)) }
+        ensures onward { length self.new ≤ length self.old }
+    {
+        for x in list {
+            *x = T::read(self)?;
+        }
+        Ok(())
+    }
+}
+
+// A number of a fixed size.
+pub trait Number: Copy {
+    ghost size: { ℕ };
+
+    // What the first bytes of a list spell.
+    ghost spelled: { List ℕ → Self };
+
+    // The next number.
+    fn read(input: &mut Input) -> Result<Self, Malformed>
+        ensures ok { IsOk result ↔ (size ≤ length input.old) }
+        ensures value { IfOk result (λ n. n ≡ spelled input.old) }
+        ensures rest { OnOk result (input.new ≡ drop size input.old) }
+        ensures same { OnErr result (input.new ≡ input.old) }
+        ensures onward { length input.new ≤ length input.old };
+}
+
+impl Number for u8 {
+    ghost size = { 1 };
+
+    ghost spelled = { λ s. little_endian 1 s 0 };
+
+    fn read(input: &mut Input) -> Result<u8, Malformed> {
+        Ok(u8::from_le_bytes(input.chunk()?))
+    }
+}
+
+impl Number for u16 {
+    ghost size = { 2 };
+
+    ghost spelled = { λ s. little_endian 2 s 0 };
+
+    fn read(input: &mut Input) -> Result<u16, Malformed> {
+        Ok(u16::from_le_bytes(input.chunk()?))
+    }
+}
+
+impl Number for u32 {
+    ghost size = { 4 };
+
+    ghost spelled = { λ s. little_endian 4 s 0 };
+
+    fn read(input: &mut Input) -> Result<u32, Malformed> {
+        Ok(u32::from_le_bytes(input.chunk()?))
+    }
+}
+
+impl Number for u64 {
+    ghost size = { 8 };
+
+    ghost spelled = { λ s. little_endian 8 s 0 };
+
+    fn read(input: &mut Input) -> Result<u64, Malformed> {
+        Ok(u64::from_le_bytes(input.chunk()?))
+    }
+}
+
+impl Number for i32 {
+    ghost size = { 4 };
+
+    ghost spelled = { λ s. cast_signed w32 (little_endian 4 s 0) };
+
+    fn read(input: &mut Input) -> Result<i32, Malformed> {
+        Ok(i32::from_le_bytes(input.chunk()?))
+    }
+}
+
+impl Number for i64 {
+    ghost size = { 8 };
+
+    ghost spelled = { λ s. signed_64 (little_endian 8 s 0) };
+
+    fn read(input: &mut Input) -> Result<i64, Malformed> {
+        Ok(i64::from_le_bytes(input.chunk()?))
+    }
+}
+
+// A count that has no meaning above a limit.
+pub fn at_most(count: usize, most: usize) -> Result<usize, Malformed>
+    ensures ok { IsOk result ↔ (count ≤ most) }
+    ensures value { IfOk result (λ n. n ≡ count) }
+{
+    if count <= most {
+        return Ok(count);
+    }
+    Err(Malformed)
+}
+
+// What the buffer holds before the call: -1, -2, -3, ...
+pub fn lent_numbers() -> [i64; MOST_LENT]
+    ensures { result ≡ lent MOST_LENT }
+{
+    let mut numbers = numbers::repeat::<_, MOST_LENT>(0);
+    for i in 0..MOST_LENT {
+        numbers[i] = -1 - i as i64;
+    }
+    numbers
+}
