@@ -15,6 +15,7 @@ use allot::shares;
 use day_file::{DayFile, Header};
 use numbers::Refusal;
 use point_day::{CELLS, USERS};
+use report::lines::Slots;
 
 // Allots a point-day that is entered, whose consumption and losses are `offtake`, and writes its report. The report needs no more than the
 // users' shares of the balance: their kinds add up to them, and no whole amount comes near refusal 12. Nothing refuses after the room is
@@ -42,17 +43,14 @@ fn allot<'a>(
     let balance = numbers::minus(net as i64, offtake as i64);
     let mut shares = point_day::no_amounts();
     shares::share_out(balance, consumption, losses, users, n, &mut shares);
-    Ok(report::put_allotted(
-        out,
-        header.day,
-        net,
-        offtake,
-        n,
+    let slots = Slots {
+        count: n,
         users,
         consumption,
         losses,
-        &shares,
-    ))
+        shares: &shares,
+    };
+    Ok(report::put_allotted(out, header.day, net, offtake, &slots))
 }
 
 // Enters the sections of a file into a measured point-day without users, allots it, and writes the report.
