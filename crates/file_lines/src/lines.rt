@@ -57,7 +57,7 @@ impl Entering {
         if user == 0 {
             return Err(Refusal::OutOfRange);
         }
-        if state::slot_of(&self.users, slot, user) < slot {
+        if state::slot_of(&self.users[..slot], user).is_some() {
             return Err(Refusal::AlreadyJoined);
         }
         if limit <= slot {

@@ -40,7 +40,7 @@ pub minus-balance-requires : goal.minus-balance-requires
 minus-balance-requires c =
     let e = c.args.header.emission in
     let w = c.args.header.downstream in
-    (cast_safe (e - w) (omega (arith, emission_low c.requires.2 e w c.requires.1)), cast_safe c.args.offtake (omega (arith, sum_small c.requires.2)))
+    (cast_safe (e - w) (omega (arith, emission_low c.requires.2 e w c.requires.1)), cast_safe c.args.entered.now.offtake (omega (arith, sum_small c.requires.2)))
 
 pub share_out-requires : goal.share_out-requires
 share_out-requires c =
