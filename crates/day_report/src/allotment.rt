@@ -36,7 +36,7 @@ fn allot(out: &mut [u8], header: Header, entered: &Entering) -> Result<usize, Re
     let consumption = &entered.consumption;
     let losses = &entered.losses;
     let net = header.emission - header.downstream;
-    let balance = numbers::minus(net as i64, entered.offtake as i64);
+    let balance = net as i64 - entered.offtake as i64;
     let mut shares = point_day::no_amounts();
     shares::share_out(balance, consumption, losses, users, n, &mut shares);
     let slots = Slots {
