@@ -22,7 +22,6 @@ use Rattle.point_day.specs.Struct.{Sized, Outcome, user_at, read, none_below, ta
 use Rattle.point_day.specs.declared.Measurement.{Measurement}
 use Rattle.point_day.specs.declared.PointDay.{PointDay}
 use Rattle.point_day.proofs.Taken.{taken_facts}
-use Rattle.state.specs.Places.{Placed}
 use Rattle.state.proofs.Totals.{offtake_is}
 use Rattle.numbers.proofs.Places.{every_at}
 use Rattle.state.proofs.Cells.{low_from}
@@ -163,14 +162,11 @@ module _ (i : ℕ) {us : List ℕ} {cs ls : List ℤ} {x : ℕ} (s : Entered (i 
       (line_2 u kind c k (entering (i + 1) us cs ls m) (sized s m) (s.taken m h) (unfold entering in refl) e)
 
   module _ (e : line_right u kind c k ≡ true) where
-    placed : Placed u (i + 1) us i
-    placed = record { within = omega arith; there = λ l. here; missing = λ q. absurd (omega arith) }
-
     lined : (m : Option Measurement) → measurement_right m ≡ true
         → lined_at i kind c k x (entering (i + 1) us cs ls m) ≡ called (calls.line u kind c k) (entering (i + 1) us cs ls m)
     lined m h =
-        line_done u kind c k (entering (i + 1) us cs ls m) (sized s m) (s.taken m h) (unfold entering in refl) e i (unfold entering in placed)
-        (unfold entering in omega arith) x (s.sum ∙ ap all_offtake (same_users (i + 1) us cs ls m))
+        line_done u kind c k (entering (i + 1) us cs ls m) (sized s m) (s.taken m h) (unfold entering in refl) e i (unfold entering in omega arith)
+        (unfold entering in here) x (s.sum ∙ ap all_offtake (same_users (i + 1) us cs ls m))
 
     pub line_past : past_limit x c k ≡ true → (g : ℕ) (m : Option Measurement) (rest : List Call) → measurement_right m ≡ true
         → in_order g (line u kind c k ∷ rest) (entering (i + 1) us cs ls m) ≡ refused 6
