@@ -21,10 +21,10 @@ returns-then-tags-values c =
     let long = too_long s.day s.holidays.now (amount_in s.reading.now) (amount_in s.own.now) f in
     rw c.status.ensures
     (elim c.then-tags-values.branch [
-      then-tags-values-via-then-tags-values w ↦
+      | then-tags-values-via-then-tags-values w ↦
           rw (ne_eqb (length s.tags.now) (length s.values.now) w.if-tags-values.true) (sym (ap (λ a. settles estimate_numbers a (s.consumption.now ∷ s.looked_at.now ∷ [])) (long (ENTRIES + 1) es (omega arith))))
-    | then-tags-values-via-else-tags-values+then-tags-gt-ENTRIES w ↦
-        rw (eq-eqb (length s.tags.now) (length s.values.now) w.if-tags-values.false) (sym (ap (λ a. settles estimate_numbers a (s.consumption.now ∷ s.looked_at.now ∷ [])) (long (length s.tags.now) es w.if-tags-gt-ENTRIES.true)))
+      | then-tags-values-via-else-tags-values+then-tags-gt-ENTRIES w ↦
+          rw (eq-eqb (length s.tags.now) (length s.values.now) w.if-tags-values.false) (sym (ap (λ a. settles estimate_numbers a (s.consumption.now ∷ s.looked_at.now ∷ [])) (long (length s.tags.now) es w.if-tags-gt-ENTRIES.true)))
     ])
 
 pub returns-in-Ok : goal.returns-in-Ok
