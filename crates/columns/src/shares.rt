@@ -5,6 +5,8 @@ ghost use Rattle.numbers.specs.Amounts.{Within};
 ghost use Rattle.proration.specs.Proration.{prorateZ};
 ghost use Rattle.point_day.specs.Limits.{USERS, LIMIT, AMOUNT};
 
+use point_day::USERS;
+
 // An amount prorated over users by the sizes of these amounts, whose sum `weight_sum` is handed in, with room for keys and weights; later
 // shares stay.
 fn share_by(
@@ -32,8 +34,8 @@ pub fn share_out(amount: i64, users: &[u16], amounts: &[i64], weight_sum: u64, s
     ensures { shares.new ≡ prorateZ amount (map nat_abs amounts.now) users.now ++ drop (length users.now) shares.old }
 {
     let n = users.len();
-    let mut keys = super::column();
-    let mut weights = super::column();
+    let mut keys = numbers::repeat::<_, USERS>(0);
+    let mut weights = numbers::repeat::<_, USERS>(0);
     share_by(
         amount,
         users,

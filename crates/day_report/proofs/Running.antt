@@ -1,6 +1,6 @@
 -- A day file's calls on a fresh point-day, and the report in a buffer. Assumes nothing.
 use mathlib.Core.Path.{◌≡◌, refl, sym, ap, ap₂, ◌∙◌}
-use mathlib.Core.Bool.{true, false}
+use mathlib.Core.Bool.{Bool, true, false}
 use mathlib.Core.List.{List, [], ◌∷◌, ◌++◌, map}
 use mathlib.Core.Logic.{⊎_elim}
 use Prim.Native.Nat.{ℕ, ◌+◌, ◌≤◌, ◌<◌}
@@ -18,7 +18,10 @@ use Rattle.point_day.specs.Day.{fresh, emission_right}
 use Rattle.point_day.specs.Struct.{Sized, padded, laid, taken}
 use Rattle.point_day.specs.declared.Measurement.{Measurement}
 use Rattle.point_day.specs.declared.Measurement.TheVariants.{Unmeasured, Measured}
-use Rattle.calendar.specs.Answers.{refused as refused-with, given}
+use Rattle.std.specs.Prelude.{Result, Ok, Err}
+use Rattle.numbers.specs.declared.Refusal.{Refusal}
+use Rattle.numbers.specs.Refusals.{number_of}
+use Rattle.calendar.specs.Answers.{refused as refused-with, given, answer_of}
 use Rattle.calendar.specs.Days.{LAST_DAY}
 use Rattle.point_day.specs.Fields.{set_measurement}
 use Rattle.measure.proofs.Measures.{measure_2, measure_done}
@@ -34,9 +37,7 @@ use Rattle.report.specs.Room.{REPORT_ROOM}
 use Rattle.file_lines.specs.Entering.{entering, unjoined}
 use Rattle.file_lines.proofs.Steps.{step}
 use Rattle.day_report.specs.Entered.{entered_and_allotted}
-use Rattle.day_report.specs.Answered.{text_for, report_call, buffer_after, size_of, answer_of}
-use Rattle.day_report.specs.declared.ReportAnswer.{ReportAnswer}
-use Rattle.day_report.specs.declared.ReportAnswer.TheVariants.{Refused, Written as Text}
+use Rattle.day_report.specs.Answered.{text_for, report_call, buffer_after, size_of}
 use Rattle.day_report.proofs.allotment.Allotting.{unjoined_taken}
 
 -- ---- measure
@@ -74,6 +75,14 @@ module _ (f : List ℕ) where
   pub malformed : well_formed f ≡ false → refused 13 ≡ report f
   unfolding report
   malformed e = rw e
+
+  -- what the test of a file's form tells
+  pub not_decoded : {n : ℕ} → n ≡ pick (well_formed f) 0 13 → (n ≡ 0 → ⊥) → refused n ≡ report f
+  not_decoded {n} e h = go (well_formed f) refl
+    where
+      go : (b : Bool) → well_formed f ≡ b → refused n ≡ report f
+      go true w = absurd (h (rw w at e))
+      go false w = let z : n ≡ 13 = rw w at e in rw z (malformed w)
 
   module _ (e : well_formed f ≡ true) where
     pub late_day : LAST_DAY < gas_day f → refused 2 ≡ report f
@@ -120,10 +129,10 @@ module _ (f out : List ℕ) where
       fits = rw (length-append (text (report f)) (drop (0 + length (text (report f))) out)) (omega arith)
 
   -- the answer of `write_report` in a buffer with the room, and the text that is then there
-  module _ (l : REPORT_ROOM ≤ length out) (a : ReportAnswer) {o : List ℕ} (p : answer_of a ≡ size_of (report_call f (length out))) (q : o ≡ buffer_after (report_call f (length out)) out) where
-    pub by_refusal : {n : ℕ} → a ≡ Refused n → {r : ℕ} {u : List ℕ} → r ≡ length (text (refused n)) → u ≡ written o 0 (text (refused n)) → Written r u
-    by_refusal {n} e {r} {u} h k =
-        let z = go (report f) (sym (ap answer_of e) ∙ p) q in
+  module _ (l : REPORT_ROOM ≤ length out) {o : List ℕ} (q : o ≡ buffer_after (report_call f (length out)) out) where
+    pub by_refusal : (n : ℕ) → refused-with n ≡ size_of (report_call f (length out)) → {r : ℕ} {u : List ℕ} → r ≡ length (text (refused n)) → u ≡ written o 0 (text (refused n)) → Written r u
+    by_refusal n p {r} {u} h k =
+        let z = go (report f) p q in
         in_text l (h ∙ ap (λ t. length (text t)) z.0) (k ∙ ap₂ (λ o t. written o 0 (text t)) z.1 z.0)
       where
         go : (t : Report) → refused-with n ≡ size_of (text_for (length out) t) → o ≡ buffer_after (text_for (length out) t) out → (refused n ≡ t) × (o ≡ out)
@@ -132,9 +141,9 @@ module _ (f out : List ℕ) where
             let x = rw (le-leb REPORT_ROOM (length out) l) at x in
             absurd (let z : ◌≡◌ {A = ℕ} 0 1 = cc in omega arith)
 
-    pub by_text : {n : ℕ} → a ≡ Text n → Written n o
-    by_text {n} e =
-        let z = go (report f) (sym (ap answer_of e) ∙ p) q in
+    pub by_text : {n : ℕ} → given n ≡ size_of (report_call f (length out)) → Written n o
+    by_text {n} p =
+        let z = go (report f) p q in
         in_text l z.0 z.1
       where
         go : (t : Report) → given n ≡ size_of (text_for (length out) t) → o ≡ buffer_after (text_for (length out) t) out → (n ≡ length (text t)) × (o ≡ written out 0 (text t))

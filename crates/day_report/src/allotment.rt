@@ -5,7 +5,6 @@ ghost use Rattle.point_day.specs.declared.Measurement.TheVariants.{Measured};
 ghost use Rattle.calendar.specs.Days.{LAST_DAY};
 ghost use Rattle.calendar.specs.Answers.{answer_of};
 ghost use Rattle.day_book.specs.Run.{allot};
-ghost use Rattle.day_file.specs.Form.{header_of, well_formed};
 ghost use Rattle.day_file.specs.Report.{in_order};
 ghost use Rattle.file_lines.specs.Entering.{entering, Entered};
 ghost use Rattle.day_report.specs.Entered.{entered_and_allotted};
@@ -13,7 +12,7 @@ ghost use Rattle.day_report.specs.Answered.{text_for, buffer_after, size_of};
 
 use super::REPORT_ROOM;
 use allot::shares;
-use day_file::Header;
+use day_file::{DayFile, Header};
 use numbers::Refusal;
 use point_day::{CELLS, USERS};
 
@@ -57,22 +56,20 @@ fn allot<'a>(
 }
 
 // Enters the sections of a file into a measured point-day without users, allots it, and writes the report.
-pub fn enter(file: &[u8], out: &mut [u8], header: Header) -> Result<usize, Refusal>
-    requires { (well_formed file.now ≡ true) × (header ≡ header_of file.now) × (header.day ≤ LAST_DAY) × (emission_right header.emission header.downstream ≡ true) }
-    ensures result_value { answer_of result ≡ size_of (text_for (length out.old) (entered_and_allotted file.now header.day (Measured header.emission header.downstream))) }
-    ensures out_after { out.new ≡ buffer_after (text_for (length out.old) (entered_and_allotted file.now header.day (Measured header.emission header.downstream))) out.old }
+pub fn enter(file: &DayFile, out: &mut [u8]) -> Result<usize, Refusal>
+    requires { let h = file.now.header in (h.day ≤ LAST_DAY) × (emission_right h.emission h.downstream ≡ true) }
+    ensures result_value { let h = file.now.header in answer_of result ≡ size_of (text_for (length out.old) (entered_and_allotted file.now.bytes.now h.day (Measured h.emission h.downstream))) }
+    ensures out_after { let h = file.now.header in out.new ≡ buffer_after (text_for (length out.old) (entered_and_allotted file.now.bytes.now h.day (Measured h.emission h.downstream))) out.old }
 {
     let mut users = point_day::no_users();
     let mut consumption = point_day::no_cells();
     let mut losses = point_day::no_cells();
     let offtake = file_lines::enter_sections(
         file,
-        header.pairs,
-        header.sections,
         USERS,
         &mut users,
         &mut consumption,
         &mut losses,
     )?;
-    allot(out, header, offtake, &users, &consumption, &losses)
+    allot(out, file.header, offtake, &users, &consumption, &losses)
 }

@@ -26,14 +26,15 @@ pub fn write_report(file: &[u8], out: &mut [u8]) -> Result<usize, Refusal>
     ensures result_value { answer_of result ≡ size_of (report_call file.now (length out.old)) }
     ensures out_after { out.new ≡ buffer_after (report_call file.now (length out.old)) out.old }
 {
-    let header = day_file::decode(file)?;
+    let file = day_file::decode(file)?;
+    let header = file.header;
     if (LAST_DAY as u64) < header.day {
         return Err(Refusal::OutOfRange);
     }
     if !state::emission_right(header.emission, header.downstream) {
         return Err(Refusal::OutOfRange);
     }
-    allotment::enter(file, out, header)
+    allotment::enter(&file, out)
 }
 
 // Writes the report on a day file, or the text of its refusal, into a buffer, and answers how many bytes it has. In a buffer with less

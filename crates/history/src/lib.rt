@@ -26,7 +26,7 @@ pub enum Reading {
     Own(u64),
 }
 
-// A day of the history.
+// A day of the history. (The form of document 01: an entry that holds an enum, and a history of 400 entries.)
 #[derive(Clone, Copy)]
 pub struct Entry {
     pub reading: Reading,
@@ -90,7 +90,8 @@ pub fn counted_entries(
     }
 }
 
-// The search for the last three real readings on days of the gas day's type.
+// The search for the last three real readings on days of the gas day's type. (The form of document 01: one loop that yields what is found
+// by `break`.)
 pub fn search(calendar: &Calendar, entries: &[Entry]) -> Found
     requires { (length entries.now ≤ calendar.now.day) × (every entry_right entries.now ≡ true) }
     ensures { result ≡ found_in calendar.now.holidays.now calendar.now.day (length entries.now) (dated calendar.now.day entries.now) }

@@ -1,2 +1,2 @@
 pub mod Listing
-pub mod Found
+pub mod Values

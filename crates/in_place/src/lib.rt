@@ -1,170 +1,105 @@
 // The calls on a point-day in plain numbers that the caller lends, in place: the tests read the numbers, and what an accepted call changes
-// is written where it stands.
+// is written where it stands. A refused call changes nothing.
 #![tactic(auto)]
 
-ghost use Rattle.std.specs.Prelude.{◌≡◌, [], ◌∷◌, pos, length};
-ghost use Rattle.numbers.specs.Refusals.{OUT_OF_RANGE};
-ghost use Rattle.point_day.specs.Limits.{USERS, CELLS, TOLERANCE};
+ghost use Rattle.std.specs.Prelude.{◌≡◌, [], List, ℤ, length};
+ghost use Rattle.numbers.specs.Refusals.{status_of};
+ghost use Rattle.point_day.specs.Limits.{TOLERANCE};
 ghost use Rattle.point_day.specs.Calls.{join, line, measure, allot, revise, start_final, stand_in};
-ghost use Rattle.point_day.specs.Struct.{read, padded, rows_of, called};
-ghost use Rattle.allot.specs.Allotted.{Tested as AllotTested};
-ghost use Rattle.revise.specs.Revised.{Tested as ReviseTested};
+ghost use Rattle.point_day.specs.Struct.{read, rows_of, called};
 ghost use Rattle.stand_in.specs.Rows.{rows_in};
-ghost use Rattle.inventory.specs.Inventory.{Afterwards};
+ghost use Rattle.inventory.specs.Inventory.{Afterwards, answer_of};
 ghost use Rattle.plain_day.specs.Layout.{day_in};
-ghost use Rattle.plain_day.specs.Plain.{plain, plain_call, plain_fresh};
-ghost use Rattle.in_place.specs.Found.{FindsIn};
-ghost use Rattle.in_place.specs.Listing.{plain_inventory, status, row_count};
+ghost use Rattle.plain_day.specs.Plain.{plain, answered, plain_call, plain_fresh};
+ghost use Rattle.in_place.specs.Values.{amount, revision};
+ghost use Rattle.in_place.specs.Listing.{plain_inventory};
 
-use inventory::InventoryAnswer;
-use line::LineTest;
-use numbers::OUT_OF_RANGE;
+use line::cells::LineEntry;
+use numbers::Refusal;
 use plain_day::{BALANCE_AT, CONSUMPTION_AT, LENGTH, LOSSES_AT, REVISION_AT, writes};
-use point_day::TOLERANCE;
-use revise::ReviseTest;
-use stand_in::{StandInTest, rows};
+use point_day::{CELLS, TOLERANCE, USERS};
+use revise::Revision;
+use stand_in::rows;
 
 // A fresh point-day.
-pub fn fresh(day: &mut [i64]) -> u8
-    ensures { plain result [] day.new ≡ plain_fresh day.old }
+pub fn fresh(day: &mut [i64]) -> Result<(), Refusal>
+    ensures { plain (status_of result) [] day.new ≡ plain_fresh day.old }
 {
     if day.len() != LENGTH {
-        return OUT_OF_RANGE;
+        return Err(Refusal::OutOfRange);
     }
     writes::clear(day, 0);
-    0
+    Ok(())
 }
 
 // Join.
-pub fn join(day: &mut [i64], user: u16) -> u8
-    ensures { plain result [] day.new ≡ plain_call (called (join user)) [] day.old }
+pub fn join(day: &mut [i64], user: u16) -> Result<(), Refusal>
+    ensures { plain (status_of result) [] day.new ≡ plain_call (called (join user)) [] day.old }
 {
-    let state = plain_day::test_numbers(day);
-    let number = join::join_test(state, user);
-    if number != 0 {
-        return number;
-    }
+    let state = plain_day::test_numbers(day)?;
+    join::join_test(&state, user)?;
     writes::append(day, user);
-    0
+    Ok(())
 }
 
 // Line; gives the losses added.
-pub fn line(
-    day: &mut [i64],
-    user: u16,
-    kind: u8,
-    consumption: u64,
-    coefficient: u64,
-    losses_added: &mut u64,
-) -> u8
-    ensures { plain result (pos losses_added.new ∷ []) day.new ≡ plain_call (called (line user kind consumption coefficient)) (pos losses_added.old ∷ []) day.old }
+pub fn line(day: &mut [i64], entry: LineEntry) -> Result<u64, Refusal>
+    ensures { (before : List ℤ) → answered amount result before day.new ≡ plain_call (called (line entry.user entry.kind entry.consumption entry.coefficient)) before day.old }
 {
-    let state = plain_day::test_numbers(day);
-    let test = line::line_test(state, user, kind, consumption, coefficient);
-    match test {
-        LineTest::Refused(number) => number,
-        LineTest::Passed(place, added) => {
-            writes::add(day, place, consumption, added);
-            *losses_added = added;
-            0
-        }
-    }
+    let state = plain_day::test_numbers(day)?;
+    let effect = line::line_test(&state, entry)?;
+    writes::add(day, effect.place, entry.consumption, effect.added);
+    Ok(effect.added)
 }
 
 // Measure.
-pub fn measure(day: &mut [i64], emission: u64, downstream: u64) -> u8
-    ensures { plain result [] day.new ≡ plain_call (called (measure emission downstream)) [] day.old }
+pub fn measure(day: &mut [i64], emission: u64, downstream: u64) -> Result<(), Refusal>
+    ensures { plain (status_of result) [] day.new ≡ plain_call (called (measure emission downstream)) [] day.old }
 {
-    let state = plain_day::test_numbers(day);
-    let number = measure::measure_test(state, emission, downstream);
-    if number != 0 {
-        return number;
-    }
+    let state = plain_day::test_numbers(day)?;
+    measure::measure_test(&state, emission, downstream)?;
     writes::store_measurement(day, emission, downstream);
-    0
-}
-
-// The tests of allot; zeros become the balances.
-fn allot_tests(day: &[i64], cells: &mut [i64]) -> u8
-    requires { cells.old ≡ padded CELLS (pos 0) [] }
-    ensures { FindsIn day.now (result ≡ OUT_OF_RANGE) (λ d. AllotTested cells.new d result) }
-{
-    let state = plain_day::test_numbers(day);
-    if !state.taken {
-        return OUT_OF_RANGE;
-    }
-    allot::allot_test(
-        state,
-        &day[CONSUMPTION_AT..LOSSES_AT],
-        &day[LOSSES_AT..BALANCE_AT],
-        &day[REVISION_AT..LENGTH],
-        cells,
-    )
+    Ok(())
 }
 
 // Allot.
-pub fn allot(day: &mut [i64]) -> u8
-    ensures { plain result [] day.new ≡ plain_call (called allot) [] day.old }
+pub fn allot(day: &mut [i64]) -> Result<(), Refusal>
+    ensures { plain (status_of result) [] day.new ≡ plain_call (called allot) [] day.old }
 {
-    let mut cells = point_day::no_cells();
-    let number = allot_tests(day, &mut cells);
-    if number != 0 {
-        return number;
-    }
+    let state = plain_day::test_numbers(day)?;
+    let mut cells = numbers::repeat::<i64, CELLS>(0);
+    allot::allot_test(
+        &state,
+        &day[CONSUMPTION_AT..LOSSES_AT],
+        &day[LOSSES_AT..BALANCE_AT],
+        &day[REVISION_AT..LENGTH],
+        &mut cells,
+    )?;
     writes::store_balances(day, &cells);
-    0
+    Ok(())
 }
 
-// The tests of revise; `column` has the revisions afterwards, if R is assigned.
-fn revise_tests(day: &[i64], column: &mut [i64]) -> ReviseTest
-    requires { length column.old ≡ USERS }
-    ensures { FindsIn day.now (result ≡ ReviseTest.Refused OUT_OF_RANGE) (λ d. ReviseTested TOLERANCE d result column.new) }
+// Revise; gives R, and whether it is within the tolerance or assigned.
+pub fn revise(day: &mut [i64]) -> Result<Revision, Refusal>
+    ensures { (before : List ℤ) → answered revision result before day.new ≡ plain_call (called (revise TOLERANCE)) before day.old }
 {
-    let state = plain_day::test_numbers(day);
-    if !state.taken {
-        return ReviseTest::Refused(OUT_OF_RANGE);
+    let state = plain_day::test_numbers(day)?;
+    let mut column = state.wholes;
+    let revision = revise::revise_test(&state, &day[REVISION_AT..LENGTH], TOLERANCE, &mut column)?;
+    if let Revision::Assigned(_) = revision {
+        writes::put(day, REVISION_AT, &column);
     }
-    column.copy_from_slice(&state.wholes);
-    revise::revise_test(state, &day[REVISION_AT..LENGTH], TOLERANCE, column)
-}
-
-// Whether R is within the tolerance, 0 or 1, and R. The status is 0.
-fn give_revision(number: u64, R: i64, within: &mut u64, amount: &mut i64) -> u8
-    ensures { (result ≡ 0) × (within.new ≡ number) × (amount.new ≡ R) }
-{
-    *within = number;
-    *amount = R;
-    0
-}
-
-// Revise; gives 1 if R is within the tolerance, 0 if it is assigned, and R.
-pub fn revise(day: &mut [i64], within: &mut u64, amount: &mut i64) -> u8
-    ensures { plain result (pos within.new ∷ amount.new ∷ []) day.new ≡ plain_call (called (revise TOLERANCE)) (pos within.old ∷ amount.old ∷ []) day.old }
-{
-    let mut column = point_day::no_amounts();
-    let test = revise_tests(day, &mut column);
-    match test {
-        ReviseTest::Refused(number) => number,
-        ReviseTest::Within(R) => give_revision(1, R, within, amount),
-        ReviseTest::Assigned(R) => {
-            writes::put(day, REVISION_AT, &column);
-            give_revision(0, R, within, amount)
-        }
-    }
+    Ok(revision)
 }
 
 // Start-final.
-pub fn start_final(day: &mut [i64]) -> u8
-    ensures { plain result [] day.new ≡ plain_call (called start_final) [] day.old }
+pub fn start_final(day: &mut [i64]) -> Result<(), Refusal>
+    ensures { plain (status_of result) [] day.new ≡ plain_call (called start_final) [] day.old }
 {
-    let state = plain_day::test_numbers(day);
-    let number = start_final::start_final_test(state);
-    if number != 0 {
-        return number;
-    }
-    let stage = state.stage;
-    writes::start(day, start_final::next_stage(stage));
-    0
+    let state = plain_day::test_numbers(day)?;
+    start_final::start_final_test(&state)?;
+    writes::start(day, start_final::next_stage(state.stage));
+    Ok(())
 }
 
 // Stand-in, with its rows in three lists; gives the rows looked at.
@@ -173,45 +108,27 @@ pub fn stand_in<'a>(
     counts: &'a [usize],
     users: &'a [u16],
     amounts: &'a [i64],
-    rows_looked_at: &mut u64,
-) -> u8
-    ensures { plain result (pos rows_looked_at.new ∷ []) day.new ≡ plain_call (called (stand_in TOLERANCE (rows_of (rows_in counts.now users.now amounts.now)))) (pos rows_looked_at.old ∷ []) day.old }
+) -> Result<usize, Refusal>
+    ensures { (before : List ℤ) → answered amount result before day.new ≡ plain_call (called (stand_in TOLERANCE (rows_of (rows_in counts.now users.now amounts.now)))) before day.old }
 {
-    let state = plain_day::test_numbers(day);
-    let mut shares = point_day::no_amounts();
-    let test = stand_in::stand_in_test(state, counts, users, amounts, TOLERANCE, &mut shares);
-    match test {
-        StandInTest::Refused(number) => number,
-        StandInTest::Passed(row) => {
-            *rows_looked_at = (row + 1) as u64;
-            writes::store_opening(day, rows::row_users(counts, users, row), &shares);
-            0
-        }
-    }
+    let state = plain_day::test_numbers(day)?;
+    let mut shares = numbers::repeat::<i64, USERS>(0);
+    let row = stand_in::stand_in_test(&state, counts, users, amounts, TOLERANCE, &mut shares)?;
+    writes::store_opening(day, rows::row_users(counts, users, row), &shares);
+    Ok(row + 1)
 }
 
-// Inventory; gives the count of rows.
-pub fn inventory<'a>(day: &'a [i64], out: &mut [i64], rows: &mut u64) -> u8
-    ensures value { result ≡ status (plain_inventory day.now out.old) }
-    ensures rows_after { rows.new ≡ row_count (plain_inventory day.now out.old) rows.old }
+// Inventory, into a lent buffer; gives the count of rows.
+pub fn inventory<'a>(day: &'a [i64], out: &mut [i64]) -> Result<usize, Refusal>
+    ensures result_value { answer_of result ≡ plain_inventory day.now out.old }
     ensures afterwards { Afterwards (plain_inventory day.now out.old) (read (day_in day.now)) out.old out.new }
 {
-    let state = plain_day::test_numbers(day);
-    if !state.taken {
-        return OUT_OF_RANGE;
-    }
-    let answer = inventory::list_rows(
-        state,
+    let state = plain_day::test_numbers(day)?;
+    inventory::list_rows(
+        &state,
         &day[CONSUMPTION_AT..LOSSES_AT],
         &day[LOSSES_AT..BALANCE_AT],
         &day[BALANCE_AT..REVISION_AT],
         out,
-    );
-    match answer {
-        InventoryAnswer::Refused(number) => number,
-        InventoryAnswer::Rows(count) => {
-            *rows = count as u64;
-            0
-        }
-    }
+    )
 }

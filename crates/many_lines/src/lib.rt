@@ -2,8 +2,9 @@
 // from line to line.
 #![tactic(auto)]
 
-ghost use Rattle.std.specs.Prelude.{◌≡◌, true, [], ◌∷◌, ◌≤◌, eqb, pos, length};
-ghost use Rattle.numbers.specs.Sums.{pick};
+ghost use Rattle.std.specs.Prelude.{◌≡◌, true, [], ◌∷◌, ◌≤◌, ◌<◌, eqb, pos, length};
+ghost use Rattle.numbers.specs.Sums.{pick, at};
+ghost use Rattle.numbers.specs.Refusals.{status_of};
 ghost use Rattle.point_day.specs.Limits.{USERS};
 ghost use Rattle.state.specs.Places.{Placed};
 ghost use Rattle.line.specs.Lined.{Stands};
@@ -12,8 +13,8 @@ ghost use Rattle.plain_day.specs.Plain.{plain};
 ghost use Rattle.plain_day.specs.Lines.{lines_in, line_calls, same_lengths, plain_lines};
 ghost use Rattle.many_lines.specs.Many.{HINTS, in_numbers};
 
-use line::LineTest;
-use numbers::OUT_OF_RANGE;
+use line::cells::LineEntry;
+use numbers::Refusal;
 use plain_day::writes;
 
 // ---- A user's slot
@@ -45,71 +46,32 @@ fn slot_near<'a>(hints: &'a [u8], slots: &'a [u16], count: usize, user: u16) -> 
     state::slot_of(slots, count, user)
 }
 
-// ---- Line after line
+// ---- The lines
 
-// The refusal that ended the lines, or 0; how many were accepted, and the losses that they added.
+// Lines in four lists of equal length.
 #[derive(Clone, Copy)]
-struct LinesEntered {
-    status: u8,
-    accepted: u64,
-    losses: u64,
-}
-
-fn entered(status: u8, accepted: usize, losses: u64) -> LinesEntered
-    ensures { (result.status ≡ status) × (result.accepted ≡ accepted) × (result.losses ≡ losses) }
-{
-    LinesEntered {
-        status: status,
-        accepted: accepted as u64,
-        losses: losses,
-    }
-}
-
-// Line after line until one is refused, on a taken point-day that is entering.
-fn enter_lines<'a>(
-    day: &mut [i64],
-    slots: &'a [u16],
-    count: usize,
-    offtake: u64,
+struct LineLists<'a> {
     users: &'a [u16],
     kinds: &'a [u8],
     consumptions: &'a [u64],
     coefficients: &'a [u64],
-) -> LinesEntered
-    requires taken { (is_readable day.old ≡ true) × Stands slots.now count offtake (day_in day.old) }
-    requires equal_lengths { same_lengths users.now kinds.now consumptions.now coefficients.now ≡ true }
-    ensures { plain result.status (pos result.accepted ∷ pos result.losses ∷ []) day.new ≡ in_numbers (line_calls (lines_in users.now kinds.now consumptions.now coefficients.now) (day_in day.old)) day.old }
-{
-    let hints = hints_of(slots, count);
-    let mut sum = offtake;
-    let mut losses: u64 = 0;
-    for i in 0..users.len() {
-        let amount = consumptions[i];
-        let slot = slot_near(&hints, slots, count, users[i]);
-        let test = line::slot_test(
-            slot,
-            count,
-            sum,
-            users[i],
-            kinds[i],
-            amount,
-            coefficients[i],
-        );
-        match test {
-            LineTest::Refused(number) => {
-                return entered(number, i, losses);
-            }
-            LineTest::Passed(place, added) => {
-                writes::add(day, place, amount, added);
-                sum += amount + added;
-                losses += added;
-            }
-        }
-    }
-    entered(0, users.len(), losses)
+    ghost equal_lengths: { same_lengths users.now kinds.now consumptions.now coefficients.now ≡ true },
 }
 
-// ---- Many lines
+impl<'a> LineLists<'a> {
+    // The arguments of line i.
+    fn entry(self, i: usize) -> LineEntry
+        requires { i < length self.users.now }
+        ensures { (result.user ≡ at self.users.now i) × (result.kind ≡ at self.kinds.now i) × (result.consumption ≡ at self.consumptions.now i) × (result.coefficient ≡ at self.coefficients.now i) }
+    {
+        LineEntry {
+            user: self.users[i],
+            kind: self.kinds[i],
+            consumption: self.consumptions[i],
+            coefficient: self.coefficients[i],
+        }
+    }
+}
 
 fn same_lengths<'a>(
     users: &'a [u16],
@@ -124,11 +86,68 @@ fn same_lengths<'a>(
         && users.len() == coefficients.len()
 }
 
-// The lines on a point-day that is not entering: the first is refused.
-fn refuse_first(n: usize) -> u8
-    ensures { result ≡ pick (eqb n 0) 0 1 }
+// ---- Line after line
+
+// How lines ended, by a refusal or with the last; how many were accepted, and the losses that they added.
+#[derive(Clone, Copy)]
+pub struct LinesEntered {
+    pub end: Result<(), Refusal>,
+    pub accepted: u64,
+    pub losses: u64,
+}
+
+fn entered(end: Result<(), Refusal>, accepted: usize, losses: u64) -> LinesEntered
+    ensures { (result.end ≡ end) × (result.accepted ≡ accepted) × (result.losses ≡ losses) }
 {
-    if n == 0 { 0 } else { numbers::WRONG_STAGE }
+    LinesEntered {
+        end,
+        accepted: accepted as u64,
+        losses,
+    }
+}
+
+// Line after line until one is refused, on a taken point-day that is entering.
+fn enter_lines<'a>(
+    day: &mut [i64],
+    slots: &'a [u16],
+    count: usize,
+    offtake: u64,
+    lines: LineLists<'a>,
+) -> LinesEntered
+    requires taken { (is_readable day.old ≡ true) × Stands slots.now count offtake (day_in day.old) }
+    ensures { plain (status_of result.end) (pos result.accepted ∷ pos result.losses ∷ []) day.new ≡ in_numbers (line_calls (lines_in lines.users.now lines.kinds.now lines.consumptions.now lines.coefficients.now) (day_in day.old)) day.old }
+{
+    let hints = hints_of(slots, count);
+    let mut sum = offtake;
+    let mut losses: u64 = 0;
+    for i in 0..lines.users.len() {
+        let entry = lines.entry(i);
+        let slot = slot_near(&hints, slots, count, entry.user);
+        match line::slot_test(slot, count, sum, entry) {
+            Err(refusal) => {
+                return entered(Err(refusal), i, losses);
+            }
+            Ok(effect) => {
+                writes::add(day, effect.place, entry.consumption, effect.added);
+                sum += entry.consumption + effect.added;
+                losses += effect.added;
+            }
+        }
+    }
+    entered(Ok(()), lines.users.len(), losses)
+}
+
+// ---- Many lines
+
+// Lines on a point-day that is not entering: the first is refused.
+fn refuse_first(n: usize) -> Result<(), Refusal>
+    ensures { status_of result ≡ pick (eqb n 0) 0 1 }
+{
+    if n == 0 {
+        Ok(())
+    } else {
+        Err(Refusal::WrongStage)
+    }
 }
 
 // Many lines: line after line until one is refused; how many were accepted, and the losses that they added, are given in every case.
@@ -138,35 +157,25 @@ pub fn lines<'a>(
     kinds: &'a [u8],
     consumptions: &'a [u64],
     coefficients: &'a [u64],
-    accepted: &mut u64,
-    losses_added: &mut u64,
-) -> u8
-    ensures { plain result (pos accepted.new ∷ pos losses_added.new ∷ []) day.new ≡ plain_lines users.now kinds.now consumptions.now coefficients.now day.old }
+) -> LinesEntered
+    ensures { plain (status_of result.end) (pos result.accepted ∷ pos result.losses ∷ []) day.new ≡ plain_lines users.now kinds.now consumptions.now coefficients.now day.old }
 {
-    *accepted = 0;
-    *losses_added = 0;
     if !same_lengths(users, kinds, consumptions, coefficients) {
-        return OUT_OF_RANGE;
+        return entered(Err(Refusal::OutOfRange), 0, 0);
     }
-    let state = plain_day::test_numbers(day);
-    if !state.taken {
-        return OUT_OF_RANGE;
+    match plain_day::test_numbers(day) {
+        Err(refusal) => entered(Err(refusal), 0, 0),
+        Ok(state) => {
+            if state.allotted {
+                return entered(refuse_first(users.len()), 0, 0);
+            }
+            let lines = LineLists {
+                users,
+                kinds,
+                consumptions,
+                coefficients,
+            };
+            enter_lines(day, &state.users, state.count, state.sum as u64, lines)
+        }
     }
-    if state.allotted {
-        return refuse_first(users.len());
-    }
-    let sum = state.sum as u64;
-    let entered = enter_lines(
-        day,
-        &state.users,
-        state.count,
-        sum,
-        users,
-        kinds,
-        consumptions,
-        coefficients,
-    );
-    *accepted = entered.accepted;
-    *losses_added = entered.losses;
-    entered.status
 }

@@ -60,7 +60,8 @@ fn length_of(n: u32) -> u32
     days_of_month(FIRST_YEAR + n / MONTHS_OF_A_YEAR, 1 + n % MONTHS_OF_A_YEAR)
 }
 
-// The month of a gas day: whole cycles of four years, then month by month.
+// The month of a gas day: whole cycles of four years, then month by month. (A `while`: a `for` over the months would need an answer for a
+// day that lies in none of them.)
 pub fn month_of_day(day: u32) -> Month
     requires { day ≤ LAST_DAY }
     ensures { result ≡ month_of day }
@@ -98,7 +99,7 @@ fn working_bit(day: u32, calendar: &Calendar) -> u32
     u32::from(calendar.type_of(day).is_working())
 }
 
-// The mask of the working days of a month, bit 0 for its first day.
+// The mask of the working days of a month, bit 0 for its first day. (The form of document 01.)
 fn mask_of_month(month: Month, calendar: &Calendar) -> u32
     requires { (month.first ≤ LAST_DAY) × (month.days < MASK_BITS) }
     ensures { result ≡ working_mask calendar.now.holidays.now month }

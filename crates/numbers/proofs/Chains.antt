@@ -1,5 +1,5 @@
 -- What a chain of iterators answers, in the words of `Lists` and `Sums`. Assumes nothing.
-use Rattle.std.proofs.Common.{◌≡◌, refl, ap, ◌∙◌, Bool, true, false, ◌&&◌, ◌||◌, ap₂, sym, eqb, List, [], ◌∷◌, ℕ, ◌+◌, ◌*◌, ◌≤◌, ◌<◌, zero, suc, length, arith}
+use Rattle.std.proofs.Common.{◌≡◌, refl, ap, ◌∙◌, Bool, true, false, not, ◌&&◌, ◌||◌, ap₂, sym, eqb, List, [], ◌∷◌, ℕ, ◌+◌, ◌*◌, ◌≤◌, ◌<◌, zero, suc, length, arith}
 use Rattle.std.specs.List.{list_all, list_any, fold, sum, AllWithin, HoldsAt}
 use Rattle.std.specs.Int.{from_bool}
 use native.Mathlib.Nat.{suc-mul}
@@ -38,6 +38,12 @@ every_from_all p (x ∷ xs) false h = go h.0 h.1 h.2 (λ k l q. every_from_all p
     go : (k : ℕ) → k < suc (length xs) → HoldsAt (λ y. p y ≡ false) (x ∷ xs) k → ((i : ℕ) → i < length xs → HoldsAt (λ y. p y ≡ false) xs i → false ≡ every p xs) → false ≡ both (p x) (every p xs)
     go zero l q e = rw (q x)
     go (suc k) l q e = rw (← e k (omega arith) (λ d. q d)) (sym (both_none (p x)))
+
+-- and of `any`
+pub fails_from_any : {A : Type 0} (p : A → Bool) (xs : List A) (r : Bool)
+    → MatchBool r ((k : ℕ) × (k < length xs) × HoldsAt (λ x. p x ≡ false) xs k) (AllWithin (λ x. p x ≡ true) xs 0 (length xs)) → r ≡ not (every p xs)
+fails_from_any p xs true h = ap not (every_from_all p xs false h)
+fails_from_any p xs false h = ap not (every_from_all p xs true h)
 
 -- `contains`
 eqb_comm : (a b : ℕ) → eqb a b ≡ eqb b a

@@ -66,6 +66,11 @@ pub fn put_allotted<'a>(
 {
     let c = of_slots(consumption, n);
     let (net, offtake) = (net as i64, offtake as i64);
-    let at = lines::put_line(out, 0, b"point", &[gas_day as i64, net, c, offtake - c, net - offtake]);
+    let at = lines::put_line(
+        out,
+        0,
+        b"point",
+        &[gas_day as i64, net, c, offtake - c, net - offtake],
+    );
     put_users(out, at, users, consumption, losses, shares, n)
 }

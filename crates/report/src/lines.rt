@@ -50,5 +50,10 @@ pub fn put_user<'a>(
     let c = of_slot(consumption, slot);
     let l = of_slot(losses, slot);
     let share = shares[slot];
-    put_line(out, i, b"user", &[i64::from(users[slot]), c, l, share, c + l + share])
+    put_line(
+        out,
+        i,
+        b"user",
+        &[i64::from(users[slot]), c, l, share, c + l + share],
+    )
 }

@@ -58,7 +58,8 @@ pub fn revise_test<'a>(
         return Err(Refusal::NegativeWeight);
     }
     let weight_sum = numbers::size(state.sum);
-    assignment::assign(amount, weight_sum, &state.users[..n], revision, column)?;
+    let users = &state.users[..n];
+    assignment::assign(amount, weight_sum, users, revision, column)?;
     Ok(Revision::Assigned(amount))
 }
 

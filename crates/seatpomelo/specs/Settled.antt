@@ -1,5 +1,6 @@
 -- What a call for programs in other languages gives back: a status, and values through pointers. Assumes nothing.
-use Rattle.std.specs.Prelude.{List, [], ◌∷◌, ℕ, ℤ, nat_abs}
+use Rattle.std.specs.Prelude.{Result, Ok, Err, List, [], ◌∷◌, ℕ, ℤ, nat_abs}
+use Rattle.numbers.specs.declared.Refusal.{Refusal}
 use Rattle.calendar.specs.Answers.{Answer, refused, given}
 use Rattle.months.specs.WorkingDays.{MonthFigures}
 use Rattle.zones.specs.declared.Province.{Province}
@@ -19,6 +20,11 @@ settled n vs = record { status = n; values = vs }
 abbrev pub settles : {A : Type 0} → (A → List ℕ) → Answer A → List ℕ → Settled
 settles values (refused n) before = settled n before
 settles values (given a) before = settled 0 (values a)
+
+-- the value of an accepted call, or what was there before
+abbrev pub value_or : {A : Type 0} → Result A Refusal → A → A
+value_or (Ok a) before = a
+value_or (Err r) before = before
 
 -- ---- the values of answers
 

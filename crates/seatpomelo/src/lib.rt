@@ -2,6 +2,7 @@
 #![tactic(auto)]
 
 ghost use Rattle.std.specs.Prelude.{◌≡◌, [], ◌∷◌, length, pos};
+ghost use Rattle.numbers.specs.Refusals.{status_of};
 ghost use Rattle.point_day.specs.Limits.{TOLERANCE};
 ghost use Rattle.point_day.specs.Calls.{join, line, measure, allot, stand_in, revise, start_final};
 ghost use Rattle.point_day.specs.Struct.{read, rows_of, called};
@@ -11,7 +12,6 @@ ghost use Rattle.plain_day.specs.Layout.{day_in};
 ghost use Rattle.plain_day.specs.Plain.{plain, plain_call, plain_fresh};
 ghost use Rattle.plain_day.specs.Lines.{plain_lines};
 ghost use Rattle.in_place.specs.Listing.{plain_inventory, status, row_count};
-ghost use Rattle.calendar.specs.Answers.{answer_of};
 ghost use Rattle.calendar.specs.DayTypes.{type_call};
 ghost use Rattle.months.specs.WorkingDays.{month_call};
 ghost use Rattle.degree_days.specs.Degrees.{degree_days_call};
@@ -21,58 +21,47 @@ ghost use Rattle.type_2.specs.Type2.{type_2, profile};
 ghost use Rattle.telemetered.specs.Telemetered.{telemetered};
 ghost use Rattle.split.specs.Call.{answer, after};
 ghost use Rattle.spread.specs.Spread.{spread, number_of};
-ghost use Rattle.day_report.specs.Answered.{report_call, buffer_after, size_of, answer_of as bytes_of};
-ghost use Rattle.seatpomelo.specs.Settled.{settled, settles, number, size, type_number, month_numbers, province_numbers, estimate_numbers};
+ghost use Rattle.day_report.specs.Answered.{report_call, buffer_after, size_of};
+ghost use Rattle.seatpomelo.specs.Settled.{settled, settles, value_or, number, size, type_number, month_numbers, province_numbers, estimate_numbers};
 ghost use Rattle.plain_values.specs.Lists.{amount_in, own_of, flows_in, entries_in, entry_count};
 
-use calendar::{DayType, DayTypeAnswer, NumberAnswer};
-use day_report::ReportAnswer;
-use degree_days::DegreeDaysAnswer;
 use history::ENTRIES;
-use months::MonthAnswer;
-use numbers::OUT_OF_RANGE;
-use spread::SpreadAnswer;
-use telemetered::TelemeteredAnswer;
-use zones::ProvinceAnswer;
+use line::cells::LineEntry;
+use numbers::Refusal;
+use revise::Revision;
+use type_1::{OtherToll, Toll34};
+use type_2::Year;
 
 // ---- Statuses and values
 
-// An accepted call's value is written, and its status is 0.
-fn give(out: &mut u64, value: u64) -> u8
-    ensures { (result ≡ 0) × (out.new ≡ value) }
-{
-    *out = value;
-    0
-}
-
-// The same with two values.
-fn give_two(out: &mut u64, value: u64, second: &mut u64, other: u64) -> u8
-    ensures { (result ≡ 0) × (out.new ≡ value) × (second.new ≡ other) }
-{
-    *out = value;
-    *second = other;
-    0
-}
-
-// A call that gives one number.
-fn settle(answer: NumberAnswer, out: &mut u64) -> u8
-    ensures { settled result (out.new ∷ []) ≡ settles number (answer_of answer) (out.old ∷ []) }
+// The status of a call: 0, or the number of its refusal.
+fn status(answer: Result<(), Refusal>) -> u8
+    ensures { result ≡ status_of answer }
 {
     match answer {
-        NumberAnswer::Refused(number) => number,
-        NumberAnswer::Given(value) => give(out, value),
+        Ok(()) => 0,
+        Err(refusal) => u8::from(refusal),
     }
 }
 
-// A day type's number.
-fn type_number(day_type: DayType) -> u64
-    ensures { result ∷ [] ≡ type_number day_type }
+// A call that gives one number: it is written, unless the call is refused.
+fn settle(answer: Result<u64, Refusal>, out: &mut u64) -> u8
+    ensures { (result ≡ status_of answer) × (out.new ≡ value_or answer out.old) }
 {
-    match day_type {
-        DayType::Working => 0,
-        DayType::Saturday => 1,
-        DayType::SundayOrHoliday => 2,
+    match answer {
+        Ok(value) => {
+            *out = value;
+            0
+        }
+        Err(refusal) => u8::from(refusal),
     }
+}
+
+// The same of a call that gives a count.
+fn settle_count(answer: Result<usize, Refusal>, out: &mut u64) -> u8
+    ensures { (result ≡ status_of answer) × (out.new ≡ value_or answer out.old) }
+{
+    settle(answer.map(|count| count as u64), out)
 }
 
 // ---- The point-day, in plain numbers that the caller lends, in place
@@ -81,14 +70,14 @@ fn type_number(day_type: DayType) -> u64
 pub fn seatpomelo_fresh(day: &mut [i64]) -> u8
     ensures { plain result [] day.new ≡ plain_fresh day.old }
 {
-    in_place::fresh(day)
+    status(in_place::fresh(day))
 }
 
 // Join.
 pub fn seatpomelo_join(day: &mut [i64], user: u16) -> u8
     ensures { plain result [] day.new ≡ plain_call (called (join user)) [] day.old }
 {
-    in_place::join(day, user)
+    status(in_place::join(day, user))
 }
 
 // Line; gives the losses added.
@@ -102,7 +91,13 @@ pub fn seatpomelo_line(
 ) -> u8
     ensures { plain result (pos losses_added.new ∷ []) day.new ≡ plain_call (called (line user kind consumption coefficient)) (pos losses_added.old ∷ []) day.old }
 {
-    in_place::line(day, user, kind, consumption, coefficient, losses_added)
+    let entry = LineEntry {
+        user,
+        kind,
+        consumption,
+        coefficient,
+    };
+    settle(in_place::line(day, entry), losses_added)
 }
 
 // Many lines: line after line until one is refused; gives how many were accepted, and the losses that they added, in every case.
@@ -117,29 +112,24 @@ pub fn seatpomelo_lines<'a>(
 ) -> u8
     ensures { plain result (pos accepted.new ∷ pos losses_added.new ∷ []) day.new ≡ plain_lines users.now kinds.now consumptions.now coefficients.now day.old }
 {
-    many_lines::lines(
-        day,
-        users,
-        kinds,
-        consumptions,
-        coefficients,
-        accepted,
-        losses_added,
-    )
+    let entered = many_lines::lines(day, users, kinds, consumptions, coefficients);
+    *accepted = entered.accepted;
+    *losses_added = entered.losses;
+    status(entered.end)
 }
 
 // Measure.
 pub fn seatpomelo_measure(day: &mut [i64], emission: u64, downstream: u64) -> u8
     ensures { plain result [] day.new ≡ plain_call (called (measure emission downstream)) [] day.old }
 {
-    in_place::measure(day, emission, downstream)
+    status(in_place::measure(day, emission, downstream))
 }
 
 // Allot.
 pub fn seatpomelo_allot(day: &mut [i64]) -> u8
     ensures { plain result [] day.new ≡ plain_call (called allot) [] day.old }
 {
-    in_place::allot(day)
+    status(in_place::allot(day))
 }
 
 // Stand-in, with its rows in three lists; gives the rows looked at.
@@ -152,21 +142,36 @@ pub fn seatpomelo_stand_in<'a>(
 ) -> u8
     ensures { plain result (pos rows_looked_at.new ∷ []) day.new ≡ plain_call (called (stand_in TOLERANCE (rows_of (rows_in counts.now users.now amounts.now)))) (pos rows_looked_at.old ∷ []) day.old }
 {
-    in_place::stand_in(day, counts, users, amounts, rows_looked_at)
+    settle_count(
+        in_place::stand_in(day, counts, users, amounts),
+        rows_looked_at,
+    )
 }
 
 // Revise; gives 1 if R is within the tolerance, 0 if it is assigned, and R.
 pub fn seatpomelo_revise(day: &mut [i64], within: &mut u64, amount: &mut i64) -> u8
     ensures { plain result (pos within.new ∷ amount.new ∷ []) day.new ≡ plain_call (called (revise TOLERANCE)) (pos within.old ∷ amount.old ∷ []) day.old }
 {
-    in_place::revise(day, within, amount)
+    match in_place::revise(day) {
+        Ok(Revision::Within(outstanding)) => {
+            *within = 1;
+            *amount = outstanding;
+            0
+        }
+        Ok(Revision::Assigned(outstanding)) => {
+            *within = 0;
+            *amount = outstanding;
+            0
+        }
+        Err(refusal) => u8::from(refusal),
+    }
 }
 
 // Start-final.
 pub fn seatpomelo_start_final(day: &mut [i64]) -> u8
     ensures { plain result [] day.new ≡ plain_call (called start_final) [] day.old }
 {
-    in_place::start_final(day)
+    status(in_place::start_final(day))
 }
 
 // Inventory; gives the count of rows.
@@ -175,7 +180,7 @@ pub fn seatpomelo_inventory<'a>(day: &'a [i64], out: &mut [i64], rows: &mut u64)
     ensures rows_after { rows.new ≡ row_count (plain_inventory day.now out.old) rows.old }
     ensures afterwards { Afterwards (plain_inventory day.now out.old) (read (day_in day.now)) out.old out.new }
 {
-    in_place::inventory(day, out, rows)
+    settle_count(in_place::inventory(day, out), rows)
 }
 
 // ---- Calendar
@@ -184,11 +189,10 @@ pub fn seatpomelo_inventory<'a>(day: &'a [i64], out: &mut [i64], rows: &mut u64)
 pub fn seatpomelo_day_type(day: u32, holidays: &[u32], day_type: &mut u64) -> u8
     ensures { settled result (day_type.new ∷ []) ≡ settles type_number (type_call day holidays.now) (day_type.old ∷ []) }
 {
-    let answer = calendar::day_type(day, holidays);
-    match answer {
-        DayTypeAnswer::Refused(number) => number,
-        DayTypeAnswer::Is(found) => give(day_type, type_number(found)),
-    }
+    settle(
+        calendar::day_type(day, holidays).map(|found| found as u64),
+        day_type,
+    )
 }
 
 // The month of a gas day: its first day, its days, the mask of its working days and how many they are.
@@ -202,18 +206,15 @@ pub fn seatpomelo_month(
 ) -> u8
     ensures { settled result (first.new ∷ days.new ∷ mask.new ∷ working.new ∷ []) ≡ settles month_numbers (month_call day holidays.now) (first.old ∷ days.old ∷ mask.old ∷ working.old ∷ []) }
 {
-    let answer = months::month_figures(day, holidays);
-    match answer {
-        MonthAnswer::Refused(number) => number,
-        MonthAnswer::Figures {
-            first: a,
-            days: b,
-            mask: c,
-            working: d,
-        } => {
-            give_two(first, a as u64, days, b as u64);
-            give_two(mask, c as u64, working, d as u64)
+    match months::month_figures(day, holidays) {
+        Ok(month) => {
+            *first = u64::from(month.first);
+            *days = u64::from(month.days);
+            *mask = u64::from(month.mask);
+            *working = u64::from(month.working);
+            0
         }
+        Err(refusal) => u8::from(refusal),
     }
 }
 
@@ -236,26 +237,25 @@ pub fn seatpomelo_telemetered(
 ) -> u8
     ensures { settled result (consumption.new ∷ looked_at.new ∷ []) ≡ settles estimate_numbers (telemetered day holidays.now (amount_in reading.now) (own_of (amount_in own.now)) (flows_in toll yearly.now daily.now factor) (entry_count tags.now values.now) (entries_in tags.now values.now)) (consumption.old ∷ looked_at.old ∷ []) }
 {
-    if tags.len() != values.len() {
-        return OUT_OF_RANGE;
-    }
-    if ENTRIES < tags.len() {
-        return OUT_OF_RANGE;
+    if tags.len() != values.len() || ENTRIES < tags.len() {
+        return u8::from(Refusal::OutOfRange);
     }
     let answer = telemetered::telemetered(
         day,
         holidays,
         plain_values::amount_in(reading),
-        plain_values::own_of(plain_values::amount_in(own)),
+        plain_values::amount_in(own),
         plain_values::flows_in(toll, yearly, daily, factor),
         plain_values::history_in(tags, values),
         tags.len(),
     );
     match answer {
-        TelemeteredAnswer::Refused(number) => number,
-        TelemeteredAnswer::Consumption { kwh, looked } => {
-            give_two(consumption, kwh, looked_at, looked as u64)
+        Ok(estimate) => {
+            *consumption = estimate.kwh;
+            *looked_at = estimate.looked as u64;
+            0
         }
+        Err(refusal) => u8::from(refusal),
     }
 }
 
@@ -271,15 +271,15 @@ pub fn seatpomelo_type_1_toll_34(
 ) -> u8
     ensures { settled result (consumption.new ∷ []) ≡ settles number (toll_34 day (amount_in last_year.now) g last_days.now (amount_in last_month.now) (amount_in yearly.now)) (consumption.old ∷ []) }
 {
-    let answer = type_1::toll_34(
+    let point = Toll34 {
         day,
-        plain_values::amount_in(last_year),
+        last_year: plain_values::amount_in(last_year),
         g,
         last_days,
-        plain_values::amount_in(last_month),
-        plain_values::amount_in(yearly),
-    );
-    settle(answer, consumption)
+        last_month: plain_values::amount_in(last_month),
+        year_flow: plain_values::amount_in(yearly),
+    };
+    settle(type_1::toll_34(point), consumption)
 }
 
 // Type 1, another toll.
@@ -296,17 +296,17 @@ pub fn seatpomelo_type_1_other_toll(
 ) -> u8
     ensures { settled result (consumption.new ∷ []) ≡ settles number (other_toll day holidays.now (amount_in last_year.now) c_c (amount_in last_month.now) (amount_in daily.now) f_c c_f) (consumption.old ∷ []) }
 {
-    let answer = type_1::other_toll(
+    let point = OtherToll {
         day,
         holidays,
-        plain_values::amount_in(last_year),
+        last_year: plain_values::amount_in(last_year),
         c_c,
-        plain_values::amount_in(last_month),
-        plain_values::amount_in(daily),
+        last_month: plain_values::amount_in(last_month),
+        day_flow: plain_values::amount_in(daily),
         f_c,
         c_f,
-    );
-    settle(answer, consumption)
+    };
+    settle(type_1::other_toll(point), consumption)
 }
 
 // Type 2, with the degree days of one winter or of two.
@@ -321,8 +321,10 @@ pub fn seatpomelo_type_2(
 ) -> u8
     ensures { settled result (consumption.new ∷ []) ≡ settles number (type_2 consumers profile g winters first.now second.now) (consumption.old ∷ []) }
 {
-    let answer = type_2::type_2(consumers, profile, g, winters, first, second);
-    settle(answer, consumption)
+    settle(
+        type_2::type_2(consumers, profile, g, winters, first, second),
+        consumption,
+    )
 }
 
 // A profile, in Wh.
@@ -337,8 +339,17 @@ pub fn seatpomelo_profile(
 ) -> u8
     ensures { settled result (wh.new ∷ []) ≡ settles number (profile f1 f2 nc1 nc2 n1 n2) (wh.old ∷ []) }
 {
-    let answer = type_2::profile(f1, f2, nc1, nc2, n1, n2);
-    settle(answer, wh)
+    let one = Year {
+        consumption: f1,
+        consumers: nc1,
+        days: n1,
+    };
+    let two = Year {
+        consumption: f2,
+        consumers: nc2,
+        days: n2,
+    };
+    settle(type_2::profile(one, two), wh)
 }
 
 // ---- Temperature
@@ -347,31 +358,27 @@ pub fn seatpomelo_profile(
 pub fn seatpomelo_degree_days(tmin: i32, tmax: i32, fortieths: &mut u64) -> u8
     ensures { settled result (fortieths.new ∷ []) ≡ settles size (degree_days_call tmin tmax) (fortieths.old ∷ []) }
 {
-    let answer = degree_days::degree_days(tmin, tmax);
-    match answer {
-        DegreeDaysAnswer::Refused(number) => number,
-        DegreeDaysAnswer::Fortieths(value) => give(fortieths, value),
-    }
+    settle(degree_days::degree_days(tmin, tmax), fortieths)
 }
 
 // The zone of a degree-day value, in hundredths.
 pub fn seatpomelo_zone(hundredths: u32, zone: &mut u64) -> u8
     ensures { settled result (zone.new ∷ []) ≡ settles number (zone_call hundredths) (zone.old ∷ []) }
 {
-    let answer = zones::zone_of(hundredths);
-    settle(answer, zone)
+    settle(zones::zone_of(hundredths), zone)
 }
 
 // A province's value, in hundredths, and its zone.
 pub fn seatpomelo_province(number: u32, value: &mut u64, zone: &mut u64) -> u8
     ensures { settled result (value.new ∷ zone.new ∷ []) ≡ settles province_numbers (province_call number) (value.old ∷ zone.old ∷ []) }
 {
-    let answer = zones::province_of(number);
-    match answer {
-        ProvinceAnswer::Refused(refusal) => refusal,
-        ProvinceAnswer::ValueAndZone { value: v, zone: z } => {
-            give_two(value, v as u64, zone, z as u64)
+    match zones::province_of(number) {
+        Ok(province) => {
+            *value = u64::from(province.mean);
+            *zone = u64::from(province.zone);
+            0
         }
+        Err(refusal) => u8::from(refusal),
     }
 }
 
@@ -382,7 +389,7 @@ pub fn seatpomelo_split(amount: i64, weights: &[u64], keys: &[u64], out: &mut [i
     ensures value { result ≡ answer amount weights.now keys.now out.old }
     ensures out_after { out.new ≡ after amount weights.now keys.now out.old }
 {
-    split::split(amount, weights, keys, out)
+    status(split::split(amount, weights, keys, out))
 }
 
 // A reading spread over the days of its period.
@@ -390,30 +397,15 @@ pub fn seatpomelo_spread(reading: u64, weights: &[i64], out: &mut [i64]) -> u8
     ensures value { result ≡ number_of (spread reading weights.now out.old).verdict }
     ensures out_after { out.new ≡ (spread reading weights.now out.old).buffer }
 {
-    let answer = spread::spread(reading, weights, out);
-    match answer {
-        SpreadAnswer::Refused(number) => number,
-        SpreadAnswer::Done => 0,
-    }
+    status(spread::spread(reading, weights, out))
 }
 
 // ---- Day report
-
-// The bytes that were written, as an answer with one number.
-fn bytes_of(answer: ReportAnswer) -> NumberAnswer
-    ensures { answer_of result ≡ bytes_of answer }
-{
-    match answer {
-        ReportAnswer::Refused(number) => NumberAnswer::Refused(number),
-        ReportAnswer::Written(bytes) => NumberAnswer::Given(bytes as u64),
-    }
-}
 
 // The report on a day file: its text at the start of `out`, which must have room for the longest, and how many bytes it has.
 pub fn seatpomelo_day_report(file: &[u8], out: &mut [u8], written: &mut u64) -> u8
     ensures written_after { settled result (written.new ∷ []) ≡ settles number (size_of (report_call file.now (length out.old))) (written.old ∷ []) }
     ensures out_after { out.new ≡ buffer_after (report_call file.now (length out.old)) out.old }
 {
-    let answer = day_report::write_report(file, out);
-    settle(bytes_of(answer), written)
+    settle_count(day_report::write_report(file, out), written)
 }

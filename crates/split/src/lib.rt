@@ -10,11 +10,13 @@ ghost use Rattle.std.specs.Prelude.{◌≡◌, ℕ, ◌<◌, ◌≤◌, ◌++◌
 ghost use Rattle.numbers.specs.Sums.{table, at, total, Bounded};
 ghost use Rattle.numbers.specs.Lists.{every};
 ghost use Rattle.numbers.specs.Amounts.{Within, signed};
+ghost use Rattle.numbers.specs.Refusals.{status_of};
 ghost use Rattle.proration.specs.Proration.{PARTIES, LARGEST_AMOUNT, LARGEST_WEIGHT, prorateZ};
 ghost use Rattle.split.specs.Call.{in_range, answer, after};
 
 use largest_remainder::prorate;
 use leftover::FEW;
+use numbers::Refusal;
 use proration::PARTIES;
 
 // The largest amount of a split in size, and the largest weight.
@@ -83,17 +85,17 @@ fn in_range(amount: i64, ws: &[u64], keys: &[u64]) -> bool
         && keys::are_distinct(keys)
 }
 
-// The signed amount prorated over the weights, by any arguments: 0, or document 01's number of the refusal.
-pub fn split(amount: i64, ws: &[u64], keys: &[u64], out: &mut [i64]) -> u8
-    ensures value { result ≡ answer amount ws.now keys.now out.old }
+// The signed amount prorated over the weights, by any arguments.
+pub fn split(amount: i64, ws: &[u64], keys: &[u64], out: &mut [i64]) -> Result<(), Refusal>
+    ensures value { status_of result ≡ answer amount ws.now keys.now out.old }
     ensures out_after { out.new ≡ after amount ws.now keys.now out.old }
 {
     if !in_range(amount, ws, keys) {
-        return numbers::OUT_OF_RANGE;
+        return Err(Refusal::OutOfRange);
     }
     if out.len() < ws.len() {
-        return numbers::SHORT_BUFFER;
+        return Err(Refusal::ShortBuffer);
     }
     prorate_signed(amount, ws, proration::weight_total(ws), keys, out);
-    0
+    Ok(())
 }

@@ -1,12 +1,12 @@
 -- The range of reading and weights, from what the tests showed. Assumes nothing.
 use mathlib.Core.Path.{◌≡◌}
-use mathlib.Core.Bool.{Bool, true, false}
+use mathlib.Core.Bool.{true}
 use mathlib.Core.List.{List}
-use Prim.Native.Nat.{ℕ, ◌≤◌, ◌<◌}
+use Prim.Native.Nat.{ℕ, ◌≤◌}
 use lib.Dec.{leb}
 use lib.IntN.{ℤ}
 use lib.ListN.{length}
-use borrow.Author.Tests.{lt-leb, le-leb, leb-true}
+use borrow.Author.Tests.{leb-true}
 use Rattle.numbers.specs.Lists.{both, every}
 use Rattle.numbers.proofs.Lists.{both_fst, both_snd}
 use Rattle.proration.specs.Proration.{PARTIES}
@@ -21,22 +21,6 @@ pub record InRange (a : ℕ) (ws : List ℤ) : Type 0 where
   pub weights : every (no_more AMOUNT) ws ≡ true
 
 module _ (reading : ℕ) (ws : List ℤ) where
-  pub too_large : LIMIT < reading → false ≡ in_range reading ws
-  unfolding in_range
-  too_large l = rw (lt-leb reading LIMIT l)
-
-  pub no_day : reading ≤ LIMIT → length ws < 1 → false ≡ in_range reading ws
-  unfolding in_range
-  no_day h l = rw (le-leb reading LIMIT h, lt-leb 1 (length ws) l)
-
-  pub too_many : reading ≤ LIMIT → 1 ≤ length ws → PARTIES < length ws → false ≡ in_range reading ws
-  unfolding in_range
-  too_many h k l = rw (le-leb reading LIMIT h, le-leb 1 (length ws) k, lt-leb (length ws) PARTIES l)
-
-  pub by_weights : reading ≤ LIMIT → 1 ≤ length ws → length ws ≤ PARTIES → {r : Bool} → r ≡ every (no_more AMOUNT) ws → r ≡ in_range reading ws
-  unfolding in_range
-  by_weights h k l e = rw (le-leb reading LIMIT h, le-leb 1 (length ws) k, le-leb (length ws) PARTIES l) e
-
   pub in_range_facts : in_range reading ws ≡ true → InRange reading ws
   unfolding in_range
   in_range_facts e =

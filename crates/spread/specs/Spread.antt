@@ -7,8 +7,9 @@ use Rattle.proration.specs.Proration.{prorateZ, prorate, counted, split, share, 
 use Rattle.point_day.specs.Limits.{AMOUNT}
 use Rattle.point_day.specs.Calls.{Test, ◌when◌, Verdict, refuse, accept, verdict, negative}
 use Rattle.spread.specs.Period.{in_range, parts}
-use Rattle.spread.specs.declared.SpreadAnswer.{SpreadAnswer}
-use Rattle.spread.specs.declared.SpreadAnswer.TheVariants.{Refused, Done}
+use Rattle.std.specs.Prelude.{Result, Ok, Err}
+use Rattle.numbers.specs.declared.Refusal.{Refusal}
+use Rattle.numbers.specs.Refusals as Refusals
 
 -- the rows of section "Refusals" that apply: 2, 11 ("reading split") and 14 ("lent buffer under .. one a day")
 unfoldable pub tests : ℕ → List ℤ → List ℤ → List Test
@@ -35,9 +36,9 @@ unfoldable pub spread : ℕ → List ℤ → List ℤ → Outcome
 spread reading weights buffer = by (verdict (tests reading weights buffer)) reading weights buffer
 
 -- what each case of the answer stands for
-abbrev pub answer_of : SpreadAnswer → Verdict
-answer_of (Refused n) = refuse n
-answer_of Done = accept
+abbrev pub answer_of : {A : Type 0} → Result A Refusal → Verdict
+answer_of (Ok _) = accept
+answer_of (Err r) = refuse (Refusals.number_of r)
 
 -- the same as one number: that of the refusal, or 0
 abbrev pub number_of : Verdict → ℕ

@@ -1,53 +1,32 @@
 // Spreading a reading over the days of its period.
 #![tactic(auto)]
 
-ghost use Rattle.std.specs.Prelude.{◌≡◌, true, ◌++◌, ◌≤◌, length, drop, replicate};
-ghost use Rattle.proration.specs.Proration.{PARTIES};
+ghost use Rattle.std.specs.Prelude.{◌≡◌, true, ◌++◌, ◌≤◌, length, drop};
 ghost use Rattle.spread.specs.Period.{in_range, days, parts};
 ghost use Rattle.spread.specs.Spread.{outcome, spread, answer_of};
 
-use numbers::{NEGATIVE_WEIGHT, OUT_OF_RANGE, SHORT_BUFFER};
+use numbers::Refusal;
 use point_day::LIMIT;
 use proration::PARTIES;
 
-#[derive(Clone, Copy)]
-pub enum SpreadAnswer {
-    Refused(u8),
-    Done,
-}
-
 // Whether the reading, the count of days and each weight are in their ranges.
+#[tactic(auto, unfolding(crate::specs::Period::in_range))]
 fn is_in_range(reading: u64, weights: &[i64]) -> bool
     ensures { result ≡ in_range reading weights.now }
 {
-    if LIMIT < reading {
-        return false;
-    }
-    if weights.len() < 1 {
-        return false;
-    }
-    if PARTIES < weights.len() {
-        return false;
-    }
-    columns::all_limited(weights)
+    reading <= LIMIT
+        && !weights.is_empty()
+        && weights.len() <= PARTIES
+        && columns::all_limited(weights)
 }
 
 // The days' numbers, from 1.
 fn write_days(keys: &mut [u64])
     ensures { keys.new ≡ days (length keys.old) }
 {
-    let mut i = 0;
-    while i < keys.len() {
+    for i in 0..keys.len() {
         keys[i] = i as u64 + 1;
-        i += 1;
     }
-}
-
-// A number for each day of the longest period. (A call, so that no proof above sees its elements one by one.)
-fn each_day(x: u64) -> [u64; PARTIES]
-    ensures { result ≡ replicate PARTIES x }
-{
-    [x; PARTIES]
 }
 
 // The reading prorated over the days by the weights, whose total is added up once; `sizes` and `keys` are scratch.
@@ -67,24 +46,24 @@ fn spread_days(reading: u64, weights: &[i64], out: &mut [i64])
     ensures { out.new ≡ parts reading weights.now ++ drop (length weights.now) out.old }
 {
     let n = weights.len();
-    let mut sizes = each_day(0);
-    let mut keys = each_day(0);
+    let mut sizes = numbers::repeat::<_, PARTIES>(0);
+    let mut keys = numbers::repeat::<_, PARTIES>(0);
     prorate_days(reading, weights, &mut sizes[..n], &mut keys[..n], out);
 }
 
 // Spreads a reading over the days of its period by their weights, into a lent buffer whose later numbers stay.
-pub fn spread(reading: u64, weights: &[i64], out: &mut [i64]) -> SpreadAnswer
+pub fn spread(reading: u64, weights: &[i64], out: &mut [i64]) -> Result<(), Refusal>
     ensures { outcome (answer_of result) out.new ≡ spread reading weights.now out.old }
 {
     if !is_in_range(reading, weights) {
-        return SpreadAnswer::Refused(OUT_OF_RANGE);
+        return Err(Refusal::OutOfRange);
     }
     if columns::any_negative(weights) {
-        return SpreadAnswer::Refused(NEGATIVE_WEIGHT);
+        return Err(Refusal::NegativeWeight);
     }
     if out.len() < weights.len() {
-        return SpreadAnswer::Refused(SHORT_BUFFER);
+        return Err(Refusal::ShortBuffer);
     }
     spread_days(reading, weights, out);
-    SpreadAnswer::Done
+    Ok(())
 }

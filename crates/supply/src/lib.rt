@@ -1,10 +1,10 @@
 // Consumption of a supply point: its amounts and contracted flows, and a new consumer's consumption.
 #![tactic(auto)]
 
-ghost use Rattle.std.specs.Prelude.{◌≡◌, true, ◌≤◌};
+ghost use Rattle.std.specs.Prelude.{◌≡◌, true};
 ghost use Rattle.calendar.specs.Answers.{answer_of};
-ghost use Rattle.supply.specs.Amounts.{THOUSAND, amount_right, flows_right, limited};
-ghost use Rattle.supply.specs.NewConsumer.{of_year, of_day, new_consumption};
+ghost use Rattle.supply.specs.Amounts.{amount_right, flows_right, limited};
+ghost use Rattle.supply.specs.NewConsumer.{new_consumption};
 
 use numbers::Refusal;
 
@@ -58,28 +58,14 @@ pub fn are_flows(flows: Flows) -> bool
     is_amount(flows.yearly) && is_amount(flows.daily) && u64::from(flows.factor) <= THOUSAND
 }
 
-// A new consumer's daily consumption from the yearly flow.
-fn from_year(flow: Option<u64>) -> Option<u64>
-    ensures { result ≡ of_year flow }
-{
-    Some(numbers::nearest(flow?, NEW_DAYS))
-}
-
-// The same from the daily flow.
-fn from_day(factor: u32, flow: Option<u64>) -> Option<u64>
-    requires { (amount_right flow ≡ true) × (factor ≤ THOUSAND) }
-    ensures { result ≡ of_day factor flow }
-{
-    Some(numbers::nearest(flow? * factor as u64, THOUSAND))
-}
-
-// A new consumer's consumption.
+// A new consumer's consumption, from the yearly flow or from the daily one, if it is there.
+#[tactic(auto, unfolding(crate::specs::NewConsumer::new_consumption, crate::specs::Amounts::flows_right))]
 pub fn new_consumption(flows: Flows) -> Option<u64>
     requires { flows_right flows ≡ true }
     ensures { result ≡ new_consumption flows }
 {
     match flows.toll {
-        Toll::Toll34 => from_year(flows.yearly),
-        Toll::OtherToll => from_day(flows.factor, flows.daily),
+        Toll::Toll34 => Some(numbers::nearest(flows.yearly?, NEW_DAYS)),
+        Toll::OtherToll => Some(numbers::nearest(flows.daily? * u64::from(flows.factor), THOUSAND)),
     }
 }

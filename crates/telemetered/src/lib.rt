@@ -46,7 +46,8 @@ fn are_amounts(reading: Option<u64>, own: Option<u64>, flows: Flows) -> bool
     supply::is_amount(reading) && supply::is_amount(own) && supply::are_flows(flows)
 }
 
-// The consumption of a telemetered supply point on a gas day, given its reading and the user's own value, if there are any.
+// The consumption of a telemetered supply point on a gas day, given its reading and the user's own value, if there are any. (The history
+// goes by value: the form of document 01.)
 #[tactic(auto, unfolding(crate::specs::Telemetered::telemetered, crate::specs::Telemetered::values_right, calendar::specs::Answers::tested))]
 pub fn telemetered(
     day: u32,

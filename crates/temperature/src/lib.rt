@@ -29,7 +29,8 @@ pub struct Fraction {
 // (g + 160) / (mean + 160), of a mean over no more days than two winters have together.
 #[tactic(auto, using(crate::proofs::Fractions::corrects), unfolding(crate::specs::Temperature::correction))]
 pub fn correction_of(g: u32, mean: Fraction) -> Fraction
-    requires { (g ≤ MOST_DEGREES) × Sound mean }
+    requires degrees_in_range { g ≤ MOST_DEGREES }
+    requires mean_sound { Sound mean }
     ensures { result ≡ correction g mean }
 {
     Fraction {

@@ -12,7 +12,7 @@ use Rattle.numbers.proofs.Sums.{cases}
 use Rattle.calendar.specs.Days.{LAST_DAY}
 use Rattle.calendar.specs.DayTypes.{is_working}
 use Rattle.calendar.proofs.Holidays.{calendar_day}
-use Rattle.months.specs.Months.{month_of, last_year_days}
+use Rattle.months.specs.Months.{month_of}
 use Rattle.months.specs.WorkingDays.{N_lab, N_res}
 use Rattle.months.proofs.Months.{month_length, month_holds}
 use Rattle.months.proofs.Masks.{some_working, some_other, working_all}
@@ -34,6 +34,9 @@ pub record Shares (n : ℕ) : Type 0 where
 pub all_share : (d : ℕ) → d ≤ LAST_DAY → Shares (month_of d).days
 all_share d l = let h = (month_holds d l).long in record { some = omega (arith, h.least); most = h.most }
 
+pub begins_within : (d : ℕ) → d ≤ LAST_DAY → (month_of d).first ≤ LAST_DAY
+begins_within d l = omega (arith, (month_holds d l).from)
+
 pub ruleset for_34 = (nat_tests, last_month, mean_sound, corrects, small_34, all_share)
 
 pub lab_within : (hs : List ℕ) (d : ℕ) → d ≤ LAST_DAY → N_lab hs (month_of d) ≤ (month_of d).days
@@ -53,4 +56,4 @@ shares hs d l = ⊎_elim on_working on_other (cases (is_working hs d))
         let h = month_holds d l in
         rw e (record { some = omega (arith, some_other hs d (month_of d) h e); most = omega (arith, h.long.most) })
 
-pub ruleset for_other = (calendar_day, month_holds, small_other, shares, lab_within)
+pub ruleset for_other = (nat_tests, calendar_day, begins_within, all_share, small_other, shares, lab_within)

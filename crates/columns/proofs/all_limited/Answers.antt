@@ -1,37 +1,15 @@
--- `columns::all_limited` meets its contract: no amount passed so far has it. Assumes nothing.
-use mathlib.Core.Path.{◌≡◌, sym, ◌∙◌}
-use mathlib.Core.Bool.{true}
-use native.Mathlib.Omega.{arith}
-use lib.IntN.{ℤ, pos, nat_abs}
-use lib.Dec.{leb}
-use mir.Syntax.{w64}
-use mir.Val.{SFits}
-use mir.Facts.{to_z-of_z}
-use borrow.Author.Count.{below_more}
-use borrow.Author.Tests.{not-true}
-use Rattle.numbers.specs.Sums.{atZ}
+-- `columns::all_limited` meets its contract. Assumes nothing.
+use Rattle.std.proofs.Common.{rules, ◌≡◌, true, false}
+use Rattle.std.proofs.lemmas.Iterator.{YieldsList-from_slice, cases_from_all}
+use borrow.Author.Tests.{tests}
+use Rattle.numbers.proofs.Chains.{every_from_all}
 use Rattle.point_day.specs.Limits.{AMOUNT}
-use Rattle.numbers.proofs.Places.{one_fails, at_every}
-use borrow.Author.Rules.{rules}
+use Rattle.point_day.specs.Day.{no_more}
 use Rattle.columns.proofs.all_limited.Goals as goal
-
-pub loop-i-init : goal.loop-i-init
-loop-i-init c = (omega arith, λ k l. absurd (omega arith))
-
-pub returns-then-not-size_at_most : goal.returns-then-not-size_at_most
-returns-then-not-size_at_most c =
-    let zs = c.args.amounts.now in
-    let h : SFits w64 (atZ zs c.loop-i.i) = search rules in
-    sym (one_fails (λ (z : ℤ). leb (nat_abs z) AMOUNT) (pos 0) zs c.loop-i.i (omega arith) (sym (rw (to_z-of_z h) at c.size_at_most.ensures) ∙ not-true _ c.if-not-size_at_most.true-raw))
-
-pub loop-i-preserved : goal.loop-i-preserved
-loop-i-preserved c =
-    let zs = c.args.amounts.now in
-    let h : SFits w64 (atZ zs c.loop-i.i) = search rules in
-    let small : c.size_at_most.result ≡ true = search rules in
-    (omega arith, below_more _ _ c.loop-i.invariant.1 (sym (rw (to_z-of_z h) at c.size_at_most.ensures) ∙ small))
 
 pub returns : goal.returns
 returns c =
     let zs = c.args.amounts.now in
-    sym (at_every (λ (z : ℤ). leb (nat_abs z) AMOUNT) (pos 0) zs (λ k l. c.loop-i.invariant.1 k (omega arith)))
+    every_from_all (no_more AMOUNT) zs _
+    (cases_from_all _ _ _ (λ z. no_more AMOUNT z ≡ true) (λ z. no_more AMOUNT z ≡ false) c.all.ensures.ran (YieldsList-from_slice zs cc)
+    (λ x q k. search (rules, tests)) (λ x q k. search (rules, tests)))

@@ -11,10 +11,7 @@ pub loop-i-init : goal.loop-i-init
 loop-i-init c = (omega arith, fill_none _ _)
 
 pub loop-i-preserved : goal.loop-i-preserved
-loop-i-preserved c = (omega arith, fill_step c.loop-i.invariant.1 (omega arith) c.key.ensures)
-
-pub shape_of-keys : goal.shape_of-keys
-shape_of-keys c = c.loop-i.invariant.1.long
+loop-i-preserved c = (omega arith, fill_step c.loop-i.invariant.1 (omega arith) c.from.ensures)
 
 pub returns : goal.returns
 returns c =

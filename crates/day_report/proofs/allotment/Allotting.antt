@@ -33,7 +33,7 @@ use Rattle.state.proofs.Cells.{within_from}
 use Rattle.allot.specs.UserWeights.{CellsInRange, basis_weights}
 use Rattle.allot.specs.Shared.{shares_of}
 use Rattle.allot.proofs.Outcomes.{cells_in_range, allot_8}
-use Rattle.calendar.specs.Answers.{given}
+use Rattle.calendar.specs.Answers.{given, answer_of}
 use Rattle.day_book.specs.Run.{allot}
 use Rattle.day_file.specs.Form.{sections}
 use Rattle.day_file.specs.File.{section_calls}
@@ -44,32 +44,38 @@ use Rattle.report.proofs.refusal.Casts.{cast_back}
 use Rattle.report.proofs.lines.Sizes.{wrapped}
 use Rattle.report.specs.Allotted.{shares_text}
 use Rattle.report.specs.Room.{REPORT_ROOM}
+use Rattle.std.specs.Prelude.{Result, Ok, Err}
+use Rattle.numbers.specs.declared.Refusal.{Refusal}
+use Rattle.numbers.specs.declared.Refusal.TheVariants.{ShortBuffer}
+use Rattle.numbers.specs.Refusals.{number_of}
+use Rattle.numbers.proofs.Refusals.{refusal_passed}
+use Rattle.std.specs.Result.{IsErrAnd}
 use Rattle.file_lines.specs.Entering.{entering, Entered, ComesTo, unjoined}
-use Rattle.file_lines.specs.declared.lines.SoFar.{SoFar}
-use Rattle.file_lines.specs.declared.lines.SoFar.TheVariants.{Refused as Stopped, Offtake}
 use Rattle.file_lines.proofs.Steps.{step, sized, sum_small}
 use Rattle.day_report.specs.Entered.{entered_and_allotted}
-use Rattle.day_report.specs.Answered.{text_for, buffer_after, size_of, answer_of}
-use Rattle.day_report.specs.declared.ReportAnswer.{ReportAnswer}
-use Rattle.day_report.specs.declared.ReportAnswer.TheVariants.{Refused, Written}
+use Rattle.day_report.specs.Answered.{text_for, buffer_after, size_of}
 use Rattle.day_report.proofs.allotment.Shares.{after, day_after, shares_day, shares_limited, report_is}
 
 -- ---- a report in a buffer
 
 -- an answer, and what the buffer holds afterwards, are those of a report
-abbrev pub Reported : List ℕ → Report → ReportAnswer → List ℕ → Type 0
+abbrev pub Reported : List ℕ → Report → Result ℕ Refusal → List ℕ → Type 0
 Reported out t r o = (answer_of r ≡ size_of (text_for (length out) t)) × (o ≡ buffer_after (text_for (length out) t) out)
 
-pub reported : (out : List ℕ) {t u : Report} → t ≡ u → (r : ReportAnswer) {o : List ℕ} → Reported out t r o → Reported out u r o
+pub reported : (out : List ℕ) {t u : Report} → t ≡ u → (r : Result ℕ Refusal) {o : List ℕ} → Reported out t r o → Reported out u r o
 reported out e r {o} p = subst (λ t. Reported out t r o) e p
 
-pub refusing : (out : List ℕ) (n : ℕ) {t : Report} → refused n ≡ t → Reported out t (Refused n) out
-refusing out n e = reported out e (Refused n) (refl, refl)
+pub refusing : (out : List ℕ) (r : Refusal) {t : Report} → refused (number_of r) ≡ t → Reported out t (Err r) out
+refusing out r e = reported out e (Err r) (refl, refl)
 
-short_room : (out : List ℕ) (g : ℕ) (d : Day) → length out < REPORT_ROOM → Reported out (allotted g d) (Refused 14) out
+-- a refusal that is passed on
+pub passing : (out : List ℕ) (a : Result ℕ Refusal) (r : Refusal) {t : Report} → IsErrAnd a (λ y. y ≡ r) → refused (number_of r) ≡ t → Reported out t a out
+passing out a r {t} h e = subst (λ b. Reported out t b out) (sym (refusal_passed a r h)) (refusing out r e)
+
+short_room : (out : List ℕ) (g : ℕ) (d : Day) → length out < REPORT_ROOM → Reported out (allotted g d) (Err ShortBuffer) out
 short_room out g d l = rw (lt-leb REPORT_ROOM (length out) l) (refl, refl)
 
-enough_room : (out : List ℕ) (g : ℕ) (d : Day) → REPORT_ROOM ≤ length out → {r : ℕ} {o : List ℕ} → r ≡ length (text (allotted g d)) → o ≡ written out 0 (text (allotted g d)) → Reported out (allotted g d) (Written r) o
+enough_room : (out : List ℕ) (g : ℕ) (d : Day) → REPORT_ROOM ≤ length out → {r : ℕ} {o : List ℕ} → r ≡ length (text (allotted g d)) → o ≡ written out 0 (text (allotted g d)) → Reported out (allotted g d) (Ok r) o
 enough_room out g d l p q = rw (le-leb REPORT_ROOM (length out) l) (ap given p, q)
 
 -- ---- allot
@@ -112,13 +118,13 @@ module _ {n : ℕ} {us : List ℕ} {cs ls : List ℤ} {x : ℕ} (s : Entered n u
     allots : in_order g (allot ∷ []) p ≡ allotted g (after p (sized s (Measured e w)) (s.taken (Measured e w) r) (unfold entering in refl) e w (unfold entering in refl) (unfold entering in h))
     allots = day_after p (sized s (Measured e w)) (s.taken (Measured e w) r) (unfold entering in refl) e w (unfold entering in refl) (unfold entering in h) g
 
-    pub no_room : length out < REPORT_ROOM → Reported out (in_order g (allot ∷ []) p) (Refused 14) out
-    no_room l = reported out (sym allots) (Refused 14) (short_room out g _ l)
+    pub no_room : length out < REPORT_ROOM → Reported out (in_order g (allot ∷ []) p) (Err ShortBuffer) out
+    no_room l = reported out (sym allots) (Err ShortBuffer) (short_room out g _ l)
 
     pub with_room : REPORT_ROOM ≤ length out → {t : List ℕ} → t ≡ text (in_order g (allot ∷ []) p) → {r : ℕ} {o : List ℕ} → r ≡ length t → o ≡ written out 0 t
-        → Reported out (in_order g (allot ∷ []) p) (Written r) o
+        → Reported out (in_order g (allot ∷ []) p) (Ok r) o
     with_room l k {r} u v =
-        reported out (sym allots) (Written r)
+        reported out (sym allots) (Ok r)
         (enough_room out g _ l (u ∙ ap length (k ∙ ap text allots)) (v ∙ ap (λ t. written out 0 t) (k ∙ ap text allots)))
 
   module _ (h : n ≡ 0 → ⊥) {b : ℤ} (q : b ≡ pos (e - w) -ℤ pos x) {zs₀ zs : List ℤ} (o : zs₀ ≡ replicate USERS (pos 0)) (k : zs ≡ shares_of b cs ls us n ++ drop n zs₀) where
@@ -193,20 +199,20 @@ zeros_entered p q r = rw (p, q, r) none_entered
 
 -- ---- the sections
 
-module _ (f : List ℕ) (a : SoFar) {us₀ : List ℕ} {cs₀ ls₀ : List ℤ} (zu : us₀ ≡ replicate USERS 0) (zc : cs₀ ≡ replicate CELLS (pos 0)) (zl : ls₀ ≡ replicate CELLS (pos 0))
-    (n : ℕ) (us : List ℕ) (cs ls : List ℤ) (k : ComesTo a (flat (map (section_calls f) (sections f))) (entering 0 us₀ cs₀ ls₀) (entering n us cs ls))
-    (m : Measurement) (r : measurement_right m ≡ true) where
+module _ (f : List ℕ) {us₀ : List ℕ} {cs₀ ls₀ : List ℤ} (zu : us₀ ≡ replicate USERS 0) (zc : cs₀ ≡ replicate CELLS (pos 0)) (zl : ls₀ ≡ replicate CELLS (pos 0))
+    (n : ℕ) (us : List ℕ) (cs ls : List ℤ) (m : Measurement) (r : measurement_right m ≡ true) where
   from : entering 0 us₀ cs₀ ls₀ ≡ unjoined
   unfolding unjoined
   from = λ i. entering 0 (zu i) (zc i) (zl i)
 
-  comes_as : (b : SoFar) → a ≡ b → ComesTo b (flat (map (section_calls f) (sections f))) unjoined (entering n us cs ls)
-  comes_as b e =
-      subst (λ d. ComesTo b (flat (map (section_calls f) (sections f))) d (entering n us cs ls)) from
-      (subst (λ b. ComesTo b (flat (map (section_calls f) (sections f))) (entering 0 us₀ cs₀ ls₀) (entering n us cs ls)) e k)
+  comes_as : (b : Result ℕ Refusal) → ComesTo b (flat (map (section_calls f) (sections f))) (entering 0 us₀ cs₀ ls₀) (entering n us cs ls)
+      → ComesTo b (flat (map (section_calls f) (sections f))) unjoined (entering n us cs ls)
+  comes_as b k = subst (λ d. ComesTo b (flat (map (section_calls f) (sections f))) d (entering n us cs ls)) from k
 
-  pub sections_refuse : (x : ℕ) → a ≡ Stopped x → (g : ℕ) → refused x ≡ entered_and_allotted f g m
-  sections_refuse x e g = sym (comes_as (Stopped x) e g m (allot ∷ []) r)
+  pub sections_refuse : (x : Refusal) → ComesTo (Err x) (flat (map (section_calls f) (sections f))) (entering 0 us₀ cs₀ ls₀) (entering n us cs ls)
+      → (g : ℕ) → refused (number_of x) ≡ entered_and_allotted f g m
+  sections_refuse x k g = sym (comes_as (Err x) k g m (allot ∷ []) r)
 
-  pub sections_lead : (x : ℕ) → a ≡ Offtake x → (g : ℕ) → in_order g (allot ∷ []) (entering n us cs ls m) ≡ entered_and_allotted f g m
-  sections_lead x e g = sym (comes_as (Offtake x) e g m (allot ∷ []) r)
+  pub sections_lead : (x : ℕ) → ComesTo (Ok x) (flat (map (section_calls f) (sections f))) (entering 0 us₀ cs₀ ls₀) (entering n us cs ls)
+      → (g : ℕ) → in_order g (allot ∷ []) (entering n us cs ls m) ≡ entered_and_allotted f g m
+  sections_lead x k g = sym (comes_as (Ok x) k g m (allot ∷ []) r)

@@ -1,30 +1,47 @@
 -- `in_place::join` meets its contract: what its tests find, it does. Assumes nothing.
-use mathlib.Core.Path.{refl}
-use mathlib.Core.List.{[]}
+use mathlib.Core.Path.{◌≡◌, refl, sym, ap, ◌∙◌}
+use mathlib.Core.List.{[], ◌∷◌, ◌++◌}
+use Prim.Native.Nat.{◌-◌}
 use native.Mathlib.Omega.{arith}
-use Rattle.point_day.specs.Calls.{join}
-use Rattle.taken.proofs.Facts.{known_few}
-use Rattle.plain_day.proofs.Ranges.{laid_length}
+use lib.IntN.{pos}
+use lib.ListN.{length, take, set, replicate}
+use borrow.Author.Rules.{rules}
+use Rattle.std.specs.Prelude.{Ok, Err}
+use Rattle.numbers.proofs.Refusals.{status_passed, refusal_passed, refused_not_0}
+use Rattle.point_day.specs.Limits.{CELLS, TOLERANCE}
+use Rattle.point_day.specs.Calls.{join, line, measure, allot, revise, start_final, stand_in}
+use Rattle.point_day.specs.Day.{next}
+use Rattle.point_day.specs.Struct.{rows_of}
+use Rattle.taken.proofs.Facts.{known_few, known_sum, known_measurement}
+use Rattle.stand_in.specs.Rows.{rows_in}
+use Rattle.plain_day.specs.Layout.{STAGE_AT, ALLOTTED_AT, CONSUMPTION_AT, LOSSES_AT, BALANCE_AT, day_in, stage_number}
+use Rattle.plain_day.specs.Tested.{TestedNumbers}
+use Rattle.plain_day.proofs.Outcomes.{untaken}
+use Rattle.plain_day.proofs.Ranges.{part_length}
 use Rattle.in_place.proofs.Effects as effect
-use Rattle.in_place.proofs.Taken.{in_numbers, known, refused_by, passed}
+use Rattle.in_place.proofs.Taken.{long, stage_read, refused_by}
 use Rattle.in_place.proofs.join.Goals as goal
 
-pub join_test-number-requires : goal.join_test-number-requires
-join_test-number-requires c = λ y. known_few (known c.test_numbers-state.ensures y)
+pub returns-in_err-state : goal.returns-in_err-state
+returns-in_err-state c = rw (status_passed _ _ c.from_residual.ensures.1) (untaken (join c.args.user) [] c.args.day.now c.in_err-state.ensures)
 
-pub returns-then-number-ne0 : goal.returns-then-number-ne0
-returns-then-number-ne0 c =
-    let f = in_numbers c.test_numbers-state.ensures c.join_test-number.ensures in
-    refused_by f (join c.args.user) [] c.join_test-number.result (λ q. q) (λ d t. t.failed c.if-number-ne0.true)
+pub returns-in_err-join_test : goal.returns-in_err-join_test
+returns-in_err-join_test c =
+    let xs = c.args.day.now in
+    let t : TestedNumbers xs (Ok c.in_ok-state.state) = c.in_ok-state.ensures in
+    rw (status_passed _ _ c.from_residual-in_err-join_test.ensures.1) (refused_by xs t (join c.args.user) [] _ ((c.in_err-join_test.ensures (day_in xs) t.1).failed (refused_not_0 _)))
+
+pub join_test-requires : goal.join_test-requires
+join_test-requires c = known_few c.in_ok-state.ensures.1
 
 pub append-requires : goal.append-requires
 append-requires c =
-    let a = c.args in
-    let p = passed (in_numbers c.test_numbers-state.ensures c.join_test-number.ensures) (λ q. omega (arith, c.if-number-ne0.false)) in
-    (laid_length a.day.now p.0, effect.join_room a.day.now p.0 a.user (p.1.passed c.if-number-ne0.false))
+    let xs = c.args.day.now in
+    let t : TestedNumbers xs (Ok c.in_ok-state.state) = c.in_ok-state.ensures in
+    (long xs t, effect.join_room xs t.0 c.args.user ((c.in_ok-join_test.ensures (day_in xs) t.1).passed refl))
 
 pub returns : goal.returns
 returns c =
-    let a = c.args in
-    let p = passed (in_numbers c.test_numbers-state.ensures c.join_test-number.ensures) (λ q. omega (arith, c.if-number-ne0.false)) in
-    effect.joined a.day.now p.0 a.user (p.1.passed c.if-number-ne0.false) refl c.append.ensures
+    let xs = c.args.day.now in
+    let t : TestedNumbers xs (Ok c.in_ok-state.state) = c.in_ok-state.ensures in
+    effect.joined xs t.0 c.args.user ((c.in_ok-join_test.ensures (day_in xs) t.1).passed refl) refl c.append.ensures

@@ -1,50 +1,52 @@
 -- `in_place::revise` meets its contract: what its tests find, it does. Assumes nothing.
-use mathlib.Core.Path.{◌≡◌, ◌∙◌}
-use mathlib.Core.List.{[], ◌∷◌}
+use mathlib.Core.Path.{◌≡◌, refl, sym, ap, ◌∙◌}
+use mathlib.Core.List.{[], ◌∷◌, ◌++◌}
+use Prim.Native.Nat.{◌-◌}
 use native.Mathlib.Omega.{arith}
 use lib.IntN.{pos}
-use mir.Syntax.{w64}
-use mir.Val.{SFits}
-use mir.Facts.{to_z-of_z}
+use lib.ListN.{length, take, set, replicate}
 use borrow.Author.Rules.{rules}
-use Rattle.point_day.specs.Limits.{TOLERANCE}
-use Rattle.point_day.specs.Answers.{refused, within_tolerance}
-use Rattle.point_day.specs.Calls.{revise}
-use Rattle.point_day.specs.Struct.{outcome, called}
-use Rattle.revise.specs.Revised.{Tested}
-use Rattle.revise.specs.declared.ReviseTest.TheVariants.{Refused, Within, Assigned}
-use Rattle.plain_day.proofs.Ranges.{laid_length}
-use Rattle.in_place.specs.Found.{FindsIn}
+use Rattle.std.specs.Prelude.{Ok, Err}
+use Rattle.numbers.proofs.Refusals.{status_passed, refusal_passed, refused_not_0}
+use Rattle.point_day.specs.Limits.{USERS, CELLS, TOLERANCE}
+use Rattle.point_day.specs.Calls.{join, line, measure, allot, revise, start_final, stand_in}
+use Rattle.point_day.specs.Day.{next}
+use Rattle.point_day.specs.Struct.{rows_of}
+use Rattle.taken.proofs.Facts.{known_few, known_sum, known_measurement}
+use Rattle.stand_in.specs.Rows.{rows_in}
+use Rattle.plain_day.specs.Layout.{STAGE_AT, ALLOTTED_AT, CONSUMPTION_AT, LOSSES_AT, BALANCE_AT, day_in, stage_number}
+use Rattle.plain_day.specs.Tested.{TestedNumbers}
+use Rattle.plain_day.proofs.Outcomes.{untaken}
+use Rattle.plain_day.proofs.Ranges.{part_length}
 use Rattle.in_place.proofs.Effects as effect
-use Rattle.in_place.proofs.Taken.{revise_refusal, within_passes, assigned_passes, refused_by, passed}
+use Rattle.in_place.proofs.Taken.{long, stage_read, refused_by}
 use Rattle.in_place.proofs.revise.Goals as goal
+
+pub returns-in_err-state : goal.returns-in_err-state
+returns-in_err-state c = λ vs. rw (refusal_passed _ _ c.from_residual.ensures.1) (untaken (revise TOLERANCE) vs c.args.day.now c.in_err-state.ensures)
+
+pub slice_bounds-revise_test-end : goal.slice_bounds-revise_test-end
+slice_bounds-revise_test-end c = omega (arith, long c.args.day.now c.in_ok-state.ensures)
+
+pub revise_test-requires : goal.revise_test-requires
+revise_test-requires c =
+    let xs = c.args.day.now in
+    let t : TestedNumbers xs (Ok c.in_ok-state.state) = c.in_ok-state.ensures in
+    (record { day = day_in xs; holds = record { known = t.1; revision = unfold day_in in refl } }, refl, omega arith)
+
+pub returns-in_err-revision : goal.returns-in_err-revision
+returns-in_err-revision c =
+    let xs = c.args.day.now in
+    let t : TestedNumbers xs (Ok c.in_ok-state.state) = c.in_ok-state.ensures in
+    λ vs. rw (refusal_passed _ _ c.from_residual-in_err-revision.ensures.1) (refused_by xs t (revise TOLERANCE) vs _ (c.in_err-revision.ensures (day_in xs) t.1 (unfold day_in in refl)))
 
 pub put-requires : goal.put-requires
 put-requires c =
-    let xs = c.args.day.now in
-    let f : FindsIn xs (Assigned c.in-Assigned.R ≡ Refused 2) (λ d. Tested TOLERANCE d (Assigned c.in-Assigned.R) _) = rw c.in-Assigned.is at c.revise_tests-test.ensures in
-    omega (arith, laid_length xs (passed f assigned_passes).0)
-
-pub returns-in-Refused : goal.returns-in-Refused
-returns-in-Refused c =
-    let a = c.args in
-    let f : FindsIn a.day.now (Refused c.in-Refused.number ≡ Refused 2) (λ d. outcome (refused c.in-Refused.number) d ≡ called (revise TOLERANCE) d) = rw c.in-Refused.is at c.revise_tests-test.ensures in
-    refused_by f (revise TOLERANCE) (pos a.within.now ∷ a.amount.now ∷ []) c.in-Refused.number revise_refusal (λ d o. o)
-
-pub returns-in-Within : goal.returns-in-Within
-returns-in-Within c =
-    let a = c.args in
-    let f : FindsIn a.day.now (Within c.in-Within.R ≡ Refused 2) (λ d. outcome (within_tolerance c.in-Within.R) d ≡ called (revise TOLERANCE) d) = rw c.in-Within.is at c.revise_tests-test.ensures in
-    let p = passed f within_passes in
-    let h : SFits w64 c.in-Within.R = search rules in
-    let g = c.give_revision.ensures in
-    effect.within a.day.now p.0 (pos a.within.now ∷ a.amount.now ∷ []) c.in-Within.R p.1 g.0 g.1 (g.2 ∙ to_z-of_z h)
+    let w : length c.revise_test.new.column ≡ USERS = search rules in
+    omega (arith, w, long c.args.day.now c.in_ok-state.ensures)
 
 pub returns-in-Assigned : goal.returns-in-Assigned
-returns-in-Assigned c =
-    let a = c.args in
-    let f : FindsIn a.day.now (Assigned c.in-Assigned.R ≡ Refused 2) (λ d. Tested TOLERANCE d (Assigned c.in-Assigned.R) _) = rw c.in-Assigned.is at c.revise_tests-test.ensures in
-    let p = passed f assigned_passes in
-    let h : SFits w64 c.in-Assigned.R = search rules in
-    let g = c.give_revision-in-Assigned.ensures in
-    effect.assigns a.day.now p.0 (pos a.within.now ∷ a.amount.now ∷ []) c.in-Assigned.R _ (search rules) p.1 g.0 g.1 (g.2 ∙ to_z-of_z h) c.put.ensures
+returns-in-Assigned c = ?
+
+pub returns-in_default : goal.returns-in_default
+returns-in_default c = ?

@@ -1,34 +1,45 @@
 -- `in_place::start_final` meets its contract: what its tests find, it does. Assumes nothing.
-use mathlib.Core.Path.{refl, ap, ◌∙◌}
-use mathlib.Core.List.{[], ◌++◌}
+use mathlib.Core.Path.{◌≡◌, refl, sym, ap, ◌∙◌}
+use mathlib.Core.List.{[], ◌∷◌, ◌++◌}
 use Prim.Native.Nat.{◌-◌}
 use native.Mathlib.Omega.{arith}
 use lib.IntN.{pos}
 use lib.ListN.{length, take, set, replicate}
-use Rattle.point_day.specs.Calls.{start_final}
+use borrow.Author.Rules.{rules}
+use Rattle.std.specs.Prelude.{Ok, Err}
+use Rattle.numbers.proofs.Refusals.{status_passed, refusal_passed, refused_not_0}
+use Rattle.point_day.specs.Limits.{CELLS, TOLERANCE}
+use Rattle.point_day.specs.Calls.{join, line, measure, allot, revise, start_final, stand_in}
 use Rattle.point_day.specs.Day.{next}
-use Rattle.plain_day.specs.Layout.{STAGE_AT, ALLOTTED_AT, CONSUMPTION_AT, stage_number}
-use Rattle.plain_day.proofs.Ranges.{laid_length}
+use Rattle.point_day.specs.Struct.{rows_of}
+use Rattle.taken.proofs.Facts.{known_few, known_sum, known_measurement}
+use Rattle.stand_in.specs.Rows.{rows_in}
+use Rattle.plain_day.specs.Layout.{STAGE_AT, ALLOTTED_AT, CONSUMPTION_AT, LOSSES_AT, BALANCE_AT, day_in, stage_number}
+use Rattle.plain_day.specs.Tested.{TestedNumbers}
+use Rattle.plain_day.proofs.Outcomes.{untaken}
+use Rattle.plain_day.proofs.Ranges.{part_length}
 use Rattle.in_place.proofs.Effects as effect
-use Rattle.in_place.proofs.Taken.{in_numbers, stage_read, refused_by, is_day, passed}
+use Rattle.in_place.proofs.Taken.{long, stage_read, refused_by}
 use Rattle.in_place.proofs.start_final.Goals as goal
 
-pub returns-then-number-ne0 : goal.returns-then-number-ne0
-returns-then-number-ne0 c =
-    let f = in_numbers c.test_numbers-state.ensures c.start_final_test-number.ensures in
-    refused_by f start_final [] c.start_final_test-number.result (λ q. q) (λ d t. t.failed c.if-number-ne0.true)
+pub returns-in_err-state : goal.returns-in_err-state
+returns-in_err-state c = rw (status_passed _ _ c.from_residual.ensures.1) (untaken start_final [] c.args.day.now c.in_err-state.ensures)
+
+pub returns-in_err-start_final_test : goal.returns-in_err-start_final_test
+returns-in_err-start_final_test c =
+    let xs = c.args.day.now in
+    let t : TestedNumbers xs (Ok c.in_ok-state.state) = c.in_ok-state.ensures in
+    rw (status_passed _ _ c.from_residual-in_err-start_final_test.ensures.1) (refused_by xs t start_final [] _ ((c.in_err-start_final_test.ensures (day_in xs) t.1).failed (refused_not_0 _)))
 
 pub start-requires : goal.start-requires
 start-requires c =
-    let p = passed (in_numbers c.test_numbers-state.ensures c.start_final_test-number.ensures) (λ q. omega (arith, c.if-number-ne0.false)) in
-    laid_length c.args.day.now p.0
+    let xs = c.args.day.now in
+    let t : TestedNumbers xs (Ok c.in_ok-state.state) = c.in_ok-state.ensures in
+    long xs t
 
 pub returns : goal.returns
 returns c =
     let xs = c.args.day.now in
-    let T = c.test_numbers-state.ensures in
-    let f = in_numbers T c.start_final_test-number.ensures in
-    let p = passed f (λ q. omega (arith, c.if-number-ne0.false)) in
-    let s = c.next_stage.ensures ∙ ap next (stage_read T (T.is ∙ is_day f (λ q. omega (arith, c.if-number-ne0.false)))) in
-    effect.restarts xs p.0 (p.1.passed c.if-number-ne0.false) refl
-    (c.start.ensures ∙ ap (λ s. set (set (take CONSUMPTION_AT xs ++ replicate (length xs - CONSUMPTION_AT) (pos 0)) ALLOTTED_AT (pos 0)) STAGE_AT (pos (stage_number s))) s)
+    let t : TestedNumbers xs (Ok c.in_ok-state.state) = c.in_ok-state.ensures in
+    effect.restarts xs t.0 ((c.in_ok-start_final_test.ensures (day_in xs) t.1).passed refl) refl
+    (c.start.ensures ∙ ap (λ s. set (set (take CONSUMPTION_AT xs ++ replicate (length xs - CONSUMPTION_AT) (pos 0)) ALLOTTED_AT (pos 0)) STAGE_AT (pos (stage_number s))) (c.next_stage.ensures ∙ ap next (stage_read xs t)))

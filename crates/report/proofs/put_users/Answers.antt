@@ -10,13 +10,13 @@ use Rattle.report.proofs.put_users.Goals as goal
 
 pub loop-slot-init : goal.loop-slot-init
 unfolding table flat
-loop-slot-init c = (omega arith, put_none c.args.out.now c.args.i (omega arith), omega arith)
+loop-slot-init c = (put_none c.args.out.now c.args.i (omega arith), omega arith)
 
 pub put_user-at-requires : goal.put_user-at-requires
 put_user-at-requires c =
     let l = c.loop-slot.invariant in
     let small = c.requires.small in
-    (omega arith, omega (arith, put_length l.1, l.2), small.0, small.1, small.2)
+    (omega arith, omega (arith, put_length l.0, l.1), small.0, small.1, small.2)
 
 pub loop-slot-preserved : goal.loop-slot-preserved
 loop-slot-preserved c =
@@ -24,18 +24,17 @@ loop-slot-preserved c =
     let a = c.args in
     let u = c.put_user-at.ensures in
     let f = slot_line a.users.now a.consumption.now a.losses.now a.shares.now in (
-      omega arith,
-      put_as (one_more f l.slot) (put_more l.invariant.1 (f l.slot) u.out_after u.value.0 (omega (arith, u.value.1, l.invariant.2))),
-      omega (arith, u.value.1, l.invariant.2),
+      put_as (one_more f l.slot) (put_more l.invariant.0 (f l.slot) u.out_after u.value.0 (omega (arith, u.value.1, l.invariant.1))),
+      omega (arith, u.value.1, l.invariant.1),
     )
 
 pub shape_of-out : goal.shape_of-out
-shape_of-out c = put_length c.loop-slot.invariant.1
+shape_of-out c = put_length c.loop-slot.invariant.0
 
 pub returns : goal.returns
 returns c =
     let l = c.loop-slot in
     let a = c.args in
-    let e : l.slot ≡ a.n = omega arith in
+    let e : l.slot ≡ a.n = omega (arith, l.auto, c.loop-slot-test.false) in
     let f = slot_line a.users.now a.consumption.now a.losses.now a.shares.now in
-    let p = put_as (ap (λ k. flat (table f k)) e) l.invariant.1 in record { value = (p.end, omega (arith, l.invariant.2)); out_after = p.is }
+    let p = put_as (ap (λ k. flat (table f k)) e) l.invariant.0 in record { value = (p.end, omega (arith, l.invariant.1)); out_after = p.is }

@@ -1,10 +1,12 @@
 -- Text put into a buffer piece by piece. Assumes nothing.
 use mathlib.Core.Path.{◌≡◌, refl, sym, ap, ◌∙◌, subst}
 use mathlib.Core.List.{List, [], ◌∷◌, ◌++◌, append_assoc, append-nil}
-use Prim.Native.Nat.{ℕ, ◌+◌, ◌≤◌, ◌<◌}
+use Prim.Native.Nat.{ℕ, zero, suc, ◌+◌, ◌≤◌, ◌<◌}
 use native.Mathlib.Omega.{arith}
-use lib.IntN.{ℤ}
-use lib.ListN.{length, set, take, drop, length-append, take-append-drop}
+use native.Mathlib.Numerals.{add-one}
+use lib.IntN.{ℤ, pos}
+use lib.ListN.{length, get_or, set, take, drop, length-append, take-append-drop}
+use lib.Seq.{take-length}
 use Rattle.wire.specs.Text.{decimal, written}
 use Rattle.wire.proofs.Text.{written_length, written_more, written_one}
 use Rattle.day_file.specs.Text.{SPACE, LINE_FEED, spaced, text_line}
@@ -40,11 +42,24 @@ put_none d i l = record { is = sym (rw (append-nil (take i d)) (none i)); end = 
 
 -- ---- a line
 
-pub spaced_next : (zs : List ℤ) (k : ℕ) → k < length zs → spaced (take (k + 1) zs) ≡ spaced (take k zs) ++ (SPACE ∷ decimal (get_or zs k (pos 0)))
+-- one number more
+spaced_suc : (zs : List ℤ) (k : ℕ) → k < length zs → spaced (take (suc k) zs) ≡ spaced (take k zs) ++ (SPACE ∷ decimal (get_or zs k (pos 0)))
 unfolding spaced
-spaced_next [] k l = absurd (omega arith)
-spaced_next (z ∷ zs) zero l = append-nil (SPACE ∷ decimal z)
-spaced_next (z ∷ zs) (suc k) l = ap (λ t. (SPACE ∷ decimal z) ++ t) (spaced_next zs k (omega arith)) ∙ sym (append_assoc (SPACE ∷ decimal z) (spaced (take k zs)) (SPACE ∷ decimal (get_or zs k (pos 0))))
+spaced_suc [] k l = absurd (omega arith)
+spaced_suc (z ∷ zs) zero l = append-nil (SPACE ∷ decimal z)
+spaced_suc (z ∷ zs) (suc k) l =
+    ap (λ t. (SPACE ∷ decimal z) ++ t) (spaced_suc zs k (omega arith)) ∙ sym (append_assoc (SPACE ∷ decimal z) (spaced (take k zs)) (SPACE ∷ decimal (get_or zs k (pos 0))))
+
+pub spaced_next : (word : List ℕ) (zs : List ℤ) (k : ℕ) → k < length zs
+    → ((word ++ spaced (take k zs)) ++ (SPACE ∷ [])) ++ decimal (get_or zs k (pos 0)) ≡ word ++ spaced (take (k + 1) zs)
+spaced_next word zs k l =
+    let z = get_or zs k (pos 0) in
+    append_assoc (word ++ spaced (take k zs)) (SPACE ∷ []) (decimal z)
+    ∙ append_assoc word (spaced (take k zs)) (SPACE ∷ decimal z)
+    ∙ ap (λ t. word ++ t) (sym (rw add-one (spaced_suc zs k l)))
+
+pub spaced_all : (word : List ℕ) (zs : List ℤ) (k : ℕ) → k ≡ length zs → (word ++ spaced (take k zs)) ++ (LINE_FEED ∷ []) ≡ text_line word zs
+spaced_all word zs k e = rw (e, take-length zs) (append_assoc word (spaced zs) (LINE_FEED ∷ []))
 
 -- the same text by another name
 pub put_as : {d : List ℕ} {i : ℕ} {s t d' : List ℕ} {at : ℕ} → s ≡ t → Put d i s d' at → Put d i t d' at

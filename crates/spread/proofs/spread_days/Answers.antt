@@ -9,22 +9,22 @@ pub slice_bounds-sizes-end : goal.slice_bounds-sizes-end
 slice_bounds-sizes-end c =
     omega (arith, (in_range_facts c.args.reading c.args.weights.now c.requires.0).few)
 
-pub slice_bounds-prorate_days-end : goal.slice_bounds-prorate_days-end
-slice_bounds-prorate_days-end c =
-    scratch_long c.args.reading c.args.weights.now c.requires.0 c.each_day-sizes.ensures
-
 pub slice_bounds-keys-end : goal.slice_bounds-keys-end
 slice_bounds-keys-end c =
     omega (arith, (in_range_facts c.args.reading c.args.weights.now c.requires.0).few)
 
+pub slice_bounds-prorate_days-end : goal.slice_bounds-prorate_days-end
+slice_bounds-prorate_days-end c =
+    scratch_long c.args.reading c.args.weights.now c.requires.0 c.repeat-sizes.ensures
+
 pub slice_bounds-prorate_days-end-2 : goal.slice_bounds-prorate_days-end-2
 slice_bounds-prorate_days-end-2 c =
-    scratch_long c.args.reading c.args.weights.now c.requires.0 c.each_day-keys.ensures
+    scratch_long c.args.reading c.args.weights.now c.requires.0 c.repeat-keys.ensures
 
 pub prorate_days-requires : goal.prorate_days-requires
 prorate_days-requires c =
-    let k = scratch_long c.args.reading c.args.weights.now c.requires.0 c.each_day-sizes.ensures in
-    let m = scratch_long c.args.reading c.args.weights.now c.requires.0 c.each_day-keys.ensures in
+    let k = scratch_long c.args.reading c.args.weights.now c.requires.0 c.repeat-sizes.ensures in
+    let m = scratch_long c.args.reading c.args.weights.now c.requires.0 c.repeat-keys.ensures in
     (c.requires.0, sym k, sym m, c.requires.1)
 
 pub returns : goal.returns

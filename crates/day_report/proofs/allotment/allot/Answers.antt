@@ -4,6 +4,7 @@ use Prim.Native.Nat.{◌-◌}
 use lib.IntN.{ℤ, pos}
 use lib.ListN.{length, length-replicate}
 use Rattle.numbers.proofs.Amounts.{widen}
+use Rattle.numbers.specs.declared.Refusal.TheVariants.{NoUser}
 use Rattle.point_day.specs.Limits.{USERS}
 use Rattle.report.proofs.Figures.{cast_safe}
 use Rattle.file_lines.proofs.Steps.{sum_small, few, limited_consumption, limited_losses}
@@ -15,7 +16,7 @@ use Rattle.day_report.proofs.allotment.allot.Goals as goal
 pub returns-then-n-eq0 : goal.returns-then-n-eq0
 returns-then-n-eq0 c =
     let a = c.args in
-    let both = refusing a.out.now 8 (no_user c.requires.2 a.header.emission a.header.downstream c.requires.1 c.if-n-eq0.true a.header.day) in
+    let both = refusing a.out.now NoUser (no_user c.requires.2 a.header.emission a.header.downstream c.requires.1 c.if-n-eq0.true a.header.day) in
     record { result_value = both.0; out_after = both.1 }
 
 pub returns-then-out-lt-REPORT_ROOM : goal.returns-then-out-lt-REPORT_ROOM
@@ -48,8 +49,8 @@ share_out-requires c =
     let w = a.header.downstream in
     let d = difference c.requires.2 e w c.requires.1 c.minus-balance.ensures in record { within = (balance_small c.requires.2 e w c.requires.1 d, in_range c.requires.2 e w c.requires.1, search rules); n_nonzero = (omega (arith, c.if-n-eq0.false), few c.requires.2, omega (arith, few c.requires.2, ap length c.no_amounts-shares.ensures, length-replicate {A = ℤ} USERS (pos 0))) }
 
-pub put_allotted-size-requires : goal.put_allotted-size-requires
-put_allotted-size-requires c =
+pub put_allotted-requires : goal.put_allotted-requires
+put_allotted-requires c =
     let a = c.args in
     let e = a.header.emission in
     let w = a.header.downstream in
@@ -70,5 +71,5 @@ returns c =
     let d = difference c.requires.2 e w c.requires.1 c.minus-balance.ensures in
     let t = by_shares c.requires.2 e w c.requires.1 c.if-n-eq0.false d c.no_amounts-shares.ensures c.share_out.ensures.shares_after a.header.day in
     let both = with_room c.requires.2 e w c.requires.1 c.if-n-eq0.false a.header.day a.out.now (omega (arith, c.if-out-lt-REPORT_ROOM.false)) t
-    c.put_allotted-size.ensures.value c.put_allotted-size.ensures.out_after in
+    c.put_allotted.ensures.value c.put_allotted.ensures.out_after in
     record { result_value = both.0; out_after = both.1 }

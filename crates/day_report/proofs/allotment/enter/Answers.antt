@@ -1,49 +1,33 @@
 -- `day_report::allotment::enter` meets its contract. Assumes nothing.
-use mathlib.Core.Path.{refl, ap, subst}
+use Rattle.std.proofs.Common.{refl}
 use Rattle.point_day.specs.declared.Measurement.TheVariants.{Measured}
-use Rattle.day_file.specs.declared.Header.{Header}
-use Rattle.file_lines.specs.Entering.{Entered, UnlessRefused}
-use Rattle.day_report.proofs.allotment.Allotting.{reported, refusing, zeros_entered, sections_refuse, sections_lead}
+use Rattle.day_report.proofs.allotment.Allotting.{reported, passing, zeros_entered, sections_refuse, sections_lead}
 use Rattle.day_report.proofs.allotment.enter.Goals as goal
 
 pub enter_sections-requires : goal.enter_sections-requires
-enter_sections-requires c = (
-  c.requires.0,
-  ap (λ (h : Header). h.pairs) c.requires.1,
-  ap (λ (h : Header). h.sections) c.requires.1,
-  refl,
-  zeros_entered c.no_users-users.ensures c.no_cells-consumption.ensures c.no_cells-losses.ensures,
-)
+enter_sections-requires c = (refl, zeros_entered c.no_users-users.ensures c.no_cells-consumption.ensures c.no_cells-losses.ensures)
 
-pub allot-requires : goal.allot-requires
-allot-requires c =
+pub returns-in_err-offtake : goal.returns-in_err-offtake
+returns-in_err-offtake c =
     let a = c.args in
-    let h = a.header in
-    let after = c.enter_sections.new in (
-      c.requires.2,
-      c.requires.3,
-      subst (λ r. UnlessRefused r (Entered h.sections after.users after.consumption after.losses)) c.in-Offtake.is c.enter_sections.ensures.unless_refused,
-    )
-
-pub returns-in-Refused : goal.returns-in-Refused
-returns-in-Refused c =
-    let a = c.args in
-    let h = a.header in
+    let h = a.file.now.header in
     let after = c.enter_sections.new in
-    let both = refusing a.out.now c.in-Refused.number
-    (sections_refuse a.file.now c.enter_sections.result c.no_users-users.ensures c.no_cells-consumption.ensures c.no_cells-losses.ensures
-    h.sections after.users after.consumption after.losses c.enter_sections.ensures.comes_to (Measured h.emission h.downstream) c.requires.3
-    c.in-Refused.number c.in-Refused.is h.day) in
+    let e = c.in_err-offtake.field-0.0 in
+    let both = passing a.out.now _ e c.from_residual.ensures.1
+    (sections_refuse a.file.now.bytes.now c.no_users-users.ensures c.no_cells-consumption.ensures c.no_cells-losses.ensures h.sections after.users after.consumption after.losses
+    (Measured h.emission h.downstream) c.requires.1 e c.in_err-offtake.ensures.comes_to h.day) in
     record { result_value = both.0; out_after = both.1 }
 
-pub returns-in-Offtake : goal.returns-in-Offtake
-returns-in-Offtake c =
+pub allot-requires : goal.allot-requires
+allot-requires c = (c.requires.0, c.requires.1, c.in_ok-offtake.ensures.unless_refused)
+
+pub returns : goal.returns
+returns c =
     let a = c.args in
-    let h = a.header in
+    let h = a.file.now.header in
     let after = c.enter_sections.new in
     let both = reported a.out.now
-    (sections_lead a.file.now c.enter_sections.result c.no_users-users.ensures c.no_cells-consumption.ensures c.no_cells-losses.ensures
-    h.sections after.users after.consumption after.losses c.enter_sections.ensures.comes_to (Measured h.emission h.downstream) c.requires.3
-    c.in-Offtake.offtake c.in-Offtake.is h.day)
+    (sections_lead a.file.now.bytes.now c.no_users-users.ensures c.no_cells-consumption.ensures c.no_cells-losses.ensures h.sections after.users after.consumption after.losses
+    (Measured h.emission h.downstream) c.requires.1 c.in_ok-offtake.offtake c.in_ok-offtake.ensures.comes_to h.day)
     c.allot.result (c.allot.ensures.result_value, c.allot.ensures.out_after) in
     record { result_value = both.0; out_after = both.1 }

@@ -1,10 +1,8 @@
 -- `revise::assignment::assign` meets its contract. Assumes nothing.
-use mathlib.Core.Path.{sym, ap, ◌∙◌}
-use mathlib.Core.Bool.{not}
+use mathlib.Core.Path.{refl, sym, ◌∙◌}
 use native.Mathlib.Omega.{arith}
 use lib.Dec.{lit≤}
 use mir.Facts.{to_z-of_z}
-use Rattle.numbers.proofs.Lists.{never}
 use Rattle.numbers.proofs.Amounts.{widen}
 use Rattle.revise.proofs.assignment.Adding.{first_long, shares_long, shares_small, large_is, revisions_are}
 use Rattle.revise.proofs.assignment.assign.Goals as goal
@@ -27,11 +25,8 @@ add_columns-requires c =
 
 pub returns-then-wholes_too_large : goal.returns-then-wholes_too_large
 returns-then-wholes_too_large c =
-    let h = c.requires in
-    let k = c.repeat-shares.ensures in
     let q = rw (to_z-of_z c.ranges.amount) at c.share_out.ensures in
-    let large = sym (large_is h k q c.repeat-wholes.ensures c.add_columns.ensures) ∙ sym c.wholes_too_large.ensures ∙ c.if-wholes_too_large.true in
-    record { is = sym (ap not large); revisions = λ e. never e }
+    (sym (large_is c.requires c.repeat-shares.ensures q c.repeat-wholes.ensures c.add_columns.ensures) ∙ sym c.wholes_too_large.ensures ∙ c.if-wholes_too_large.true, refl)
 
 pub add_columns-requires-2 : goal.add_columns-requires-2
 add_columns-requires-2 c =
@@ -43,6 +38,7 @@ pub returns : goal.returns
 returns c =
     let h = c.requires in
     let k = c.repeat-shares.ensures in
-    let q = rw (to_z-of_z c.ranges.amount) at c.share_out.ensures in
-    let small = sym (large_is h k q c.repeat-wholes.ensures c.add_columns.ensures) ∙ sym c.wholes_too_large.ensures ∙ c.if-wholes_too_large.false in
-    record { is = sym (ap not small); revisions = λ e. revisions_are h k q c.args.column.now h.column_long c.add_columns-2.ensures }
+    let q = rw (to_z-of_z c.ranges.amount) at c.share_out.ensures in (
+      sym (large_is h k q c.repeat-wholes.ensures c.add_columns.ensures) ∙ sym c.wholes_too_large.ensures ∙ c.if-wholes_too_large.false,
+      revisions_are h k q c.args.column.now h.column_long c.add_columns-2.ensures,
+    )

@@ -2,13 +2,12 @@
 use mathlib.Core.Path.{sym, ◌∙◌}
 use native.Mathlib.Omega.{arith}
 use borrow.Author.Count.{below_more}
-use borrow.Author.Tests.{not-true, not-false}
 use Rattle.stand_in.specs.Rows.{rows}
 use Rattle.stand_in.proofs.rows.Rows.{row_is_right, row_too_long, all_right, one_wrong}
 use Rattle.stand_in.proofs.rows.each_row_right.Goals as goal
 
 pub loop-i-init : goal.loop-i-init
-loop-i-init c = (omega arith, λ k l. absurd (omega arith))
+loop-i-init c k l = absurd (omega arith)
 
 pub returns-then-n-gt-USERS : goal.returns-then-n-gt-USERS
 returns-then-n-gt-USERS c =
@@ -22,19 +21,19 @@ returns-then-not-row_right c =
     let a = c.args in
     let rs = rows a.counts.now a.users.now a.amounts.now in
     let i = c.loop-i.i in
-    let e = sym (row_is_right rs (omega arith) (omega arith) i (omega arith) c.if-n-gt-USERS.false) ∙ sym c.row_right.ensures in
-    sym (one_wrong rs i (omega arith) (e ∙ not-true _ c.if-not-row_right.true-raw))
+    let e = sym (row_is_right rs (omega arith) (omega arith) i (omega arith) c.if-n-gt-USERS.false) ∙ sym c.if-not-row_right.ensures in
+    sym (one_wrong rs i (omega arith) e)
 
 pub loop-i-preserved : goal.loop-i-preserved
 loop-i-preserved c =
     let a = c.args in
     let rs = rows a.counts.now a.users.now a.amounts.now in
     let i = c.loop-i.i in
-    let e = sym (row_is_right rs (omega arith) (omega arith) i (omega arith) c.if-n-gt-USERS.false) ∙ sym c.row_right.ensures in
-    (omega arith, below_more _ _ c.loop-i.invariant.1 (e ∙ not-false _ c.if-not-row_right.false-raw))
+    let e = sym (row_is_right rs (omega arith) (omega arith) i (omega arith) c.if-n-gt-USERS.false) ∙ sym c.if-not-row_right.ensures in
+    below_more _ _ c.loop-i.invariant e
 
 pub returns : goal.returns
 returns c =
     let a = c.args in
     let rs = rows a.counts.now a.users.now a.amounts.now in
-    sym (all_right rs (λ k l. c.loop-i.invariant.1 k (omega arith)))
+    sym (all_right rs (λ k l. c.loop-i.invariant k (omega arith)))
