@@ -68,17 +68,16 @@ fn read_stage(input: &mut Input) -> Result<Stage, Malformed>
     }
 }
 
-fn read_measurement(input: &mut Input) -> Result<Measurement, Malformed>
+fn read_measurement(input: &mut Input) -> Result<Option<Measurement>, Malformed>
     ensures { length input.new ≤ length input.old }
 {
     let measured = input.flag()?;
     let emission = u64::read(input)?;
     let downstream = u64::read(input)?;
-    if measured {
-        Ok(Measurement::Measured(emission, downstream))
-    } else {
-        Ok(Measurement::Unmeasured)
-    }
+    Ok(measured.then_some(Measurement {
+        emission,
+        downstream,
+    }))
 }
 
 // The point-day that is loaded: stage, whether it is allotted, measurement and count of users, then its arrays.

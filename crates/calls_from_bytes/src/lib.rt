@@ -38,7 +38,7 @@ fn print_stage<W: Write>(out: &mut W, stage: Stage) -> io::Result<()> {
     }
 }
 
-fn print_measurement<W: Write>(out: &mut W, measurement: Measurement) -> io::Result<()>
+fn print_measurement<W: Write>(out: &mut W, measurement: Option<Measurement>) -> io::Result<()>
     requires { measurement_right measurement ≡ true }
 {
     if !state::is_measured(measurement) {

@@ -18,10 +18,10 @@ use Rattle.point_day.specs.Day as day
 use Rattle.point_day.specs.Day.{User, numbers, all_offtake, some, no_more, too_large, measurement_right}
 use Rattle.point_day.specs.Calls.{by_basis, none_in_2_to_5, of_2_to_5, or_kind_1, negative, day_balance}
 use Rattle.point_day.specs.declared.Measurement.{Measurement}
-use Rattle.point_day.specs.declared.Measurement.TheVariants.{Unmeasured, Measured}
 use Rattle.day_book.specs.Book.{Book, kinds, kinds_2_to_5, net_of, net, offtake, offtake_of, point_sum, whole, to_balance, weighing}
 use Rattle.day_book.specs.Book.{user_weight, kind_weight, liesZ, some_negative, some_too_large}
 use Rattle.day_book.specs.Described.{user_of, day_of}
+use Rattle.std.specs.Prelude.{Option, None, Some}
 
 -- ---- tests of amounts
 
@@ -59,9 +59,9 @@ minus : (a c : ℕ) → c ≤ a → pos a -ℤ pos c ≡ pos (a - c)
 minus a zero l = ap pos (omega arith)
 minus a (suc c) l = rw (le-ltb a (suc c) l)
 
-pub net_is : (m : Measurement) → measurement_right m ≡ true → net_of m ≡ day.net_of m
-net_is Unmeasured h = refl
-net_is (Measured emission downstream) h = minus emission downstream (leb-true downstream emission (both_snd (leb emission LIMIT) _ h))
+pub net_is : (m : Option Measurement) → measurement_right m ≡ true → net_of m ≡ day.net_of m
+net_is None h = refl
+net_is (Some m) h = minus m.emission m.downstream (leb-true m.downstream m.emission (both_snd (leb m.emission LIMIT) _ h))
 
 -- ---- one user
 

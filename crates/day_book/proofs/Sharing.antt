@@ -22,7 +22,6 @@ use Rattle.point_day.specs.Calls.{looked_at, negative, opened, at_most, keep, as
 use Rattle.point_day.specs.declared.Stage.{Stage}
 use Rattle.point_day.specs.declared.Stage.TheVariants.{Provisional, FinalProvisional, FinalDefinitive}
 use Rattle.point_day.specs.declared.Measurement.{Measurement}
-use Rattle.point_day.specs.declared.Measurement.TheVariants.{Unmeasured, Measured}
 use Rattle.point_day.proofs.Wholes.{small_right}
 use Rattle.point_day.proofs.Good.{accepted}
 use Rattle.point_day.proofs.Settling.{row_used, row_is}
@@ -41,14 +40,15 @@ use Rattle.day_book.proofs.Figures.{user_weight_is, kind_weights_are, net_day, b
 use Rattle.day_book.proofs.Lines.{newcomer_empty}
 use Rattle.day_book.proofs.Entering.{entering_row}
 use Rattle.day_book.proofs.Agreeing.{Kept, users_apart, measured_right, Agree, row}
+use Rattle.std.specs.Prelude.{Option, None, Some}
 
 either_none : (p : Bool) → either p false ≡ p
 either_none true = refl
 either_none false = refl
 
-unmeasured_is : (m : Measurement) → unmeasured m ≡ not (is_measured m)
-unmeasured_is Unmeasured = refl
-unmeasured_is (Measured emission downstream) = refl
+unmeasured_is : (m : Option Measurement) → unmeasured m ≡ not (is_measured m)
+unmeasured_is None = refl
+unmeasured_is (Some m) = refl
 
 no_user_is : (b : Book) → not (no_user b) ≡ some (day_of b).users
 unfolding day_of

@@ -13,9 +13,10 @@ use Rattle.point_day.specs.Answers.{Answer, refused, done, losses_added, rows_lo
 use Rattle.point_day.specs.declared.Stage.{Stage}
 use Rattle.point_day.specs.declared.Stage.TheVariants.{Provisional, FinalProvisional, FinalDefinitive}
 use Rattle.point_day.specs.declared.Measurement.{Measurement}
-use Rattle.point_day.specs.declared.Measurement.TheVariants.{Unmeasured, Measured}
 use Rattle.day_book.specs.Calls.{Call, join, line, lent_line, measure, allot, stand_in, revise, start_final, Calls, none, ◌then◌}
 use Rattle.day_book.specs.Calls.{Line, a_line, by_call}
+use Rattle.std.specs.Prelude.{Option, None, Some}
+use Rattle.point_day.specs.Day.{metered}
 
 -- ---- its numbers, apart from those of the calls
 
@@ -54,7 +55,7 @@ TOLERANCE = 100
 pub record Book : Type 0 where
   pub stage : Stage
   pub allotted : Bool
-  pub measurement : Measurement
+  pub measurement : Option Measurement
   -- users in the order in which they joined
   pub users : List ℕ
   -- the lines accepted in this stage, the latest first
@@ -66,7 +67,7 @@ pub record Book : Type 0 where
   pub settled : ℤ
 
 -- a book of these, in that order
-abbrev pub page : Stage → Bool → Measurement → List ℕ → List Line → (ℕ → ℕ → ℤ) → (ℕ → ℤ) → ℤ → Book
+abbrev pub page : Stage → Bool → Option Measurement → List ℕ → List Line → (ℕ → ℕ → ℤ) → (ℕ → ℤ) → ℤ → Book
 page s a m us ls bal rev net = record {
   stage = s;
   allotted = a;
@@ -85,7 +86,7 @@ with_stage x b = page x b.allotted b.measurement b.users b.lines b.balance b.rev
 abbrev pub with_allotted : Bool → Book → Book
 with_allotted x b = page b.stage x b.measurement b.users b.lines b.balance b.revision b.settled
 
-abbrev pub with_measurement : Measurement → Book → Book
+abbrev pub with_measurement : Option Measurement → Book → Book
 with_measurement x b = page b.stage b.allotted x b.users b.lines b.balance b.revision b.settled
 
 abbrev pub with_users : List ℕ → Book → Book
@@ -105,7 +106,7 @@ with_settled x b = page b.stage b.allotted b.measurement b.users b.lines b.balan
 
 -- "Fresh is provisional, entering, empty, unmeasured"
 unfoldable pub fresh_book : Book
-fresh_book = page Provisional false Unmeasured [] [] (λ n kind. pos 0) (λ n. pos 0) (pos 0)
+fresh_book = page Provisional false None [] [] (λ n kind. pos 0) (λ n. pos 0) (pos 0)
 
 -- ---- its figures
 
@@ -116,14 +117,14 @@ kinds = 1 ∷ 2 ∷ 3 ∷ 4 ∷ 5 ∷ []
 abbrev pub kinds_2_to_5 : List ℕ
 kinds_2_to_5 = 2 ∷ 3 ∷ 4 ∷ 5 ∷ []
 
-abbrev pub unmeasured : Measurement → Bool
-unmeasured Unmeasured = true
-unmeasured (Measured emission downstream) = false
+abbrev pub unmeasured : Option Measurement → Bool
+unmeasured None = true
+unmeasured (Some m) = false
 
 -- "Net is the difference"; 0 if unmeasured, which no call then uses
-abbrev pub net_of : Measurement → ℤ
-net_of Unmeasured = pos 0
-net_of (Measured emission downstream) = pos emission -ℤ pos downstream
+abbrev pub net_of : Option Measurement → ℤ
+net_of None = pos 0
+net_of (Some m) = pos m.emission -ℤ pos m.downstream
 
 abbrev pub net : Book → ℤ
 net b = net_of b.measurement
@@ -185,7 +186,7 @@ with_line l b = with_lines (l ∷ b.lines) b
 -- ---- Measure: "the latest counts"
 
 unfoldable pub measured : ℕ → ℕ → Book → Book
-measured emission downstream b = with_measurement (Measured emission downstream) b
+measured emission downstream b = with_measurement (metered emission downstream) b
 
 -- ---- Allot
 

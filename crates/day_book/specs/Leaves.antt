@@ -8,6 +8,7 @@ use Rattle.point_day.specs.declared.Measurement.{Measurement}
 use Rattle.point_day.specs.Struct.{read}
 use Rattle.day_book.specs.Run.{Call, join, line, lent_line, measure, allot, stand_in, revise, start_final, Calls, none, ◌then◌}
 use Rattle.day_book.specs.Run.{run, answer_after}
+use Rattle.std.specs.Prelude.{Option}
 
 -- ---- figures of a day
 
@@ -17,7 +18,7 @@ stage d = d.stage
 abbrev pub allotted : Day → Bool
 allotted d = d.allotted
 
-abbrev pub measurement : Day → Measurement
+abbrev pub measurement : Day → Option Measurement
 measurement d = d.measurement
 
 abbrev pub joined_users : Day → List ℕ

@@ -17,7 +17,6 @@ use Rattle.point_day.specs.Limits.{USERS, CELLS}
 use Rattle.point_day.specs.Day.{fresh, emission_right}
 use Rattle.point_day.specs.Struct.{Sized, padded, laid, taken}
 use Rattle.point_day.specs.declared.Measurement.{Measurement}
-use Rattle.point_day.specs.declared.Measurement.TheVariants.{Unmeasured, Measured}
 use Rattle.std.specs.Prelude.{Result, Ok, Err}
 use Rattle.numbers.specs.declared.Refusal.{Refusal}
 use Rattle.numbers.specs.Refusals.{number_of}
@@ -39,12 +38,14 @@ use Rattle.file_lines.proofs.Steps.{step}
 use Rattle.day_report.specs.Entered.{entered_and_allotted}
 use Rattle.day_report.specs.Answered.{text_for, report_call, buffer_after, size_of}
 use Rattle.day_report.proofs.allotment.Allotting.{unjoined_taken}
+use Rattle.std.specs.Prelude.{Option, None}
+use Rattle.point_day.specs.Day.{metered}
 
 -- ---- measure
 
 fresh_taken : taken (laid fresh) ≡ true
 unfolding unjoined entering laid padded flat fresh
-fresh_taken = unjoined_taken Unmeasured refl
+fresh_taken = unjoined_taken None refl
 
 fresh_sized : Sized (laid fresh)
 unfolding laid padded flat fresh
@@ -56,7 +57,7 @@ fresh_sized = record {
   revision = length-replicate USERS (pos 0);
 }
 
-fresh_measured : (m : Measurement) → unjoined m ≡ set_measurement m (laid fresh)
+fresh_measured : (m : Option Measurement) → unjoined m ≡ set_measurement m (laid fresh)
 unfolding unjoined entering laid padded flat fresh
 fresh_measured m = refl
 
@@ -65,9 +66,9 @@ module _ (e w g : ℕ) (rest : List Call) where
   unfolding laid fresh
   refuse r = step g (measure e w) rest (laid fresh) (measure_2 e w (laid fresh) fresh_sized fresh_taken refl r)
 
-  measure_leads : emission_right e w ≡ true → in_order g (measure e w ∷ rest) (laid fresh) ≡ in_order g rest (unjoined (Measured e w))
+  measure_leads : emission_right e w ≡ true → in_order g (measure e w ∷ rest) (laid fresh) ≡ in_order g rest (unjoined (metered e w))
   unfolding laid fresh
-  measure_leads r = step g (measure e w) rest (laid fresh) (measure_done e w (laid fresh) fresh_sized fresh_taken refl r (fresh_measured (Measured e w)))
+  measure_leads r = step g (measure e w) rest (laid fresh) (measure_done e w (laid fresh) fresh_sized fresh_taken refl r (fresh_measured (metered e w)))
 
 -- ---- the whole file
 
@@ -97,7 +98,7 @@ module _ (f : List ℕ) where
       pub unmeasured : emission_right b w ≡ false → refused 2 ≡ report f
       unmeasured h = sym (by_calls ∙ refuse b w g (flat (map (section_calls f) (sections f)) ++ (allot ∷ [])) h)
 
-      pub measured : emission_right b w ≡ true → entered_and_allotted f g (Measured b w) ≡ report f
+      pub measured : emission_right b w ≡ true → entered_and_allotted f g (metered b w) ≡ report f
       measured h = sym (by_calls ∙ measure_leads b w g (flat (map (section_calls f) (sections f)) ++ (allot ∷ [])) h)
 
 -- the first bytes of an input, one more than a day file may have, tell its report

@@ -1,7 +1,7 @@
 // The sections of a day file entered into a measured point-day, which is allotted and reported.
 ghost use Rattle.std.specs.Prelude.{◌≡◌, true, ◌∷◌, [], ◌≤◌, length};
 ghost use Rattle.point_day.specs.Day.{emission_right};
-ghost use Rattle.point_day.specs.declared.Measurement.TheVariants.{Measured};
+ghost use Rattle.point_day.specs.Day.{metered};
 ghost use Rattle.calendar.specs.Days.{LAST_DAY};
 ghost use Rattle.calendar.specs.Answers.{answer_of};
 ghost use Rattle.day_book.specs.Run.{allot};
@@ -15,6 +15,7 @@ use allot::shares;
 use day_file::{DayFile, Header};
 use numbers::Refusal;
 use point_day::{CELLS, USERS};
+use report::lines::Slots;
 
 // Allots a point-day that is entered, whose consumption and losses are `offtake`, and writes its report. The report needs no more than the
 // users' shares of the balance: their kinds add up to them, and no whole amount comes near refusal 12. Nothing refuses after the room is
@@ -28,8 +29,8 @@ fn allot<'a>(
     losses: &'a [i64; CELLS],
 ) -> Result<usize, Refusal>
     requires { (header.day ≤ LAST_DAY) × (emission_right header.emission header.downstream ≡ true) × Entered header.sections users.now consumption.now losses.now offtake }
-    ensures result_value { answer_of result ≡ size_of (text_for (length out.old) (in_order header.day (allot ∷ []) (entering header.sections users.now consumption.now losses.now (Measured header.emission header.downstream)))) }
-    ensures out_after { out.new ≡ buffer_after (text_for (length out.old) (in_order header.day (allot ∷ []) (entering header.sections users.now consumption.now losses.now (Measured header.emission header.downstream)))) out.old }
+    ensures result_value { answer_of result ≡ size_of (text_for (length out.old) (in_order header.day (allot ∷ []) (entering header.sections users.now consumption.now losses.now (metered header.emission header.downstream)))) }
+    ensures out_after { out.new ≡ buffer_after (text_for (length out.old) (in_order header.day (allot ∷ []) (entering header.sections users.now consumption.now losses.now (metered header.emission header.downstream)))) out.old }
 {
     let n = header.sections;
     if n == 0 {
@@ -42,24 +43,21 @@ fn allot<'a>(
     let balance = numbers::minus(net as i64, offtake as i64);
     let mut shares = point_day::no_amounts();
     shares::share_out(balance, consumption, losses, users, n, &mut shares);
-    Ok(report::put_allotted(
-        out,
-        header.day,
-        net,
-        offtake,
-        n,
+    let slots = Slots {
+        count: n,
         users,
         consumption,
         losses,
-        &shares,
-    ))
+        shares: &shares,
+    };
+    Ok(report::put_allotted(out, header.day, net, offtake, &slots))
 }
 
 // Enters the sections of a file into a measured point-day without users, allots it, and writes the report.
 pub fn enter(file: &DayFile, out: &mut [u8]) -> Result<usize, Refusal>
     requires { let h = file.now.header in (h.day ≤ LAST_DAY) × (emission_right h.emission h.downstream ≡ true) }
-    ensures result_value { let h = file.now.header in answer_of result ≡ size_of (text_for (length out.old) (entered_and_allotted file.now.bytes.now h.day (Measured h.emission h.downstream))) }
-    ensures out_after { let h = file.now.header in out.new ≡ buffer_after (text_for (length out.old) (entered_and_allotted file.now.bytes.now h.day (Measured h.emission h.downstream))) out.old }
+    ensures result_value { let h = file.now.header in answer_of result ≡ size_of (text_for (length out.old) (entered_and_allotted file.now.bytes.now h.day (metered h.emission h.downstream))) }
+    ensures out_after { let h = file.now.header in out.new ≡ buffer_after (text_for (length out.old) (entered_and_allotted file.now.bytes.now h.day (metered h.emission h.downstream))) out.old }
 {
     let mut users = point_day::no_users();
     let mut consumption = point_day::no_cells();

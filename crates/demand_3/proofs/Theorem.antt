@@ -14,8 +14,8 @@ use Rattle.demand_3.specs.Results.{Results, fresh_day, join, line, line_lent, me
 chain : {cs : Calls} {ss : List Answer} {d : PointDay} → Results cs ss d → Chain cs ss d
 chain (fresh_day e) = subst⁻¹ (Chain none []) e begin
 chain (join h user r e) = goes_on (chain h) (call.join user) e
-chain (line h user kind c k r e) = goes_on (chain h) (call.line user kind c k) e
-chain (line_lent h user kind c k r e) = goes_on (chain h) (call.lent_line user kind c k) e
+chain (line h e r p) = goes_on (chain h) (call.line e.user e.kind e.consumption e.coefficient) p
+chain (line_lent h e r p) = goes_on (chain h) (call.lent_line e.user e.kind e.consumption e.coefficient) p
 chain (measure h emission downstream r e) = goes_on (chain h) (call.measure emission downstream) e
 chain (allot h r e) = goes_on (chain h) call.allot e
 chain (stand_in h rows r e) = goes_on (chain h) (call.stand_in (rows_of rows)) e

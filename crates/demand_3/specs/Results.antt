@@ -1,19 +1,21 @@
 -- Calls of the library's functions one after the other, from the fresh point-day on. Each step is what the function's own contract says of
 -- its result: `Learnt` of a function is its `ensures`, as the toolchain reads it for a caller. Assumes nothing.
-use Rattle.std.specs.Prelude.{◌≡◌, refl, List, [], ◌∷◌, ℕ}
+use Rattle.std.specs.Prelude.{Result, ◌≡◌, refl, List, [], ◌∷◌, ℕ}
 use contract.Lifetimes.{Lfts}
 use denote.Triple.Clauses.{AtExit}
 use contract.Monad.{fact}
 use borrow.Fn.World.{World, ArgsD}
+use Rattle.numbers.specs.declared.Refusal.{Refusal}
 use Rattle.point_day.specs.Answers.{Answer, answer_of}
 use Rattle.point_day.specs.Calls as calls
 use Rattle.point_day.specs.Struct.{outcome, called, rows_of}
 use Rattle.point_day.specs.declared.PointDay.{PointDay}
 use Rattle.point_day.specs.declared.StandInRows.{StandInRows}
-use Rattle.point_day.specs.declared.Answer as code
+use Rattle.point_day.specs.declared.Accepted.{Accepted}
 use Rattle.point_day.specs.declared.Outcome.{Outcome}
 use Rattle.point_day.proofs.fresh_day.Reads as fresh
 use Rattle.join.proofs.join.Reads as joined
+use Rattle.line.specs.declared.cells.LineEntry.{LineEntry}
 use Rattle.line.proofs.line.Reads as lined
 use Rattle.line.specs.contracts.line_lent as lent
 use Rattle.measure.proofs.measure.Reads as measured
@@ -32,8 +34,8 @@ Fresh d = fresh.Learnt tt tt d tt
 abbrev pub Joined : PointDay → ℕ → Outcome → Type 0
 Joined d user r = joined.Learnt tt (d, (user, tt)) r (d, (user, tt))
 
-abbrev pub Lined : PointDay → ℕ → ℕ → ℕ → ℕ → Outcome → Type 0
-Lined d user kind c k r = lined.Learnt tt (d, (user, (kind, (c, (k, tt))))) r (d, (user, (kind, (c, (k, tt)))))
+abbrev pub Lined : PointDay → LineEntry → Outcome → Type 0
+Lined d e r = lined.Learnt tt (d, (e, tt)) r (d, (e, tt))
 
 abbrev pub Measured : PointDay → ℕ → ℕ → Outcome → Type 0
 Measured d emission downstream r = measured.Learnt tt (d, (emission, (downstream, tt))) r (d, (emission, (downstream, tt)))
@@ -51,13 +53,13 @@ abbrev pub Restarted : PointDay → Outcome → Type 0
 Restarted d r = restarted.Learnt tt (d, tt) r (d, tt)
 
 -- `line_lent` takes a reference to a struct: of the lent point-day before and after,
-abbrev pub Lent : PointDay → ℕ → ℕ → ℕ → ℕ → code.Answer → PointDay → Type 0
-Lent before user kind c k r after = outcome (answer_of r) after ≡ called (calls.line user kind c k) before
+abbrev pub Lent : PointDay → LineEntry → Result Accepted Refusal → PointDay → Type 0
+Lent before e r after = outcome (answer_of r) after ≡ called (calls.line e.user e.kind e.consumption e.coefficient) before
 
 -- and that is its `ensures` in every model of the program logic, with the arguments a and, at exit, s
-lent_ensures : (w : World) (κs : Lfts 1) (a : ArgsD lent.signature κs) (r : code.Answer) (s : AtExit lent.ended κs)
+lent_ensures : (w : World) (κs : Lfts 1) (a : ArgsD lent.signature κs) (r : Result Accepted Refusal) (s : AtExit lent.ended κs)
     → (lent.clauses w.𝓛 w.𝓜.mem w.𝓡.returns κs a).ensures tt r s
-    ≡ fact w.𝓤 (Lent a.0.now a.1.0 a.1.1.0 a.1.1.1.0 a.1.1.1.1.0 r s.0.now)
+    ≡ fact w.𝓤 (Lent a.0.now a.1.0 r s.0.now)
 lent_ensures w κs a r s = refl
 
 -- ---- one call after the other
@@ -68,10 +70,10 @@ pub data Results : Calls → List Answer → PointDay → Type 0 where
   fresh_day : {d : PointDay} → Fresh d → Results none [] d
   join : {cs : Calls} {ss : List Answer} {d : PointDay} → Results cs ss d → (user : ℕ) (r : Outcome) → Joined d user r
       → Results (cs then call.join user) (answer_of r.answer ∷ ss) r.day
-  line : {cs : Calls} {ss : List Answer} {d : PointDay} → Results cs ss d → (user kind c k : ℕ) (r : Outcome) → Lined d user kind c k r
-      → Results (cs then call.line user kind c k) (answer_of r.answer ∷ ss) r.day
-  line_lent : {cs : Calls} {ss : List Answer} {d d' : PointDay} → Results cs ss d → (user kind c k : ℕ) (r : code.Answer)
-      → Lent d user kind c k r d' → Results (cs then call.lent_line user kind c k) (answer_of r ∷ ss) d'
+  line : {cs : Calls} {ss : List Answer} {d : PointDay} → Results cs ss d → (e : LineEntry) (r : Outcome) → Lined d e r
+      → Results (cs then call.line e.user e.kind e.consumption e.coefficient) (answer_of r.answer ∷ ss) r.day
+  line_lent : {cs : Calls} {ss : List Answer} {d d' : PointDay} → Results cs ss d → (e : LineEntry) (r : Result Accepted Refusal)
+      → Lent d e r d' → Results (cs then call.lent_line e.user e.kind e.consumption e.coefficient) (answer_of r ∷ ss) d'
   measure : {cs : Calls} {ss : List Answer} {d : PointDay} → Results cs ss d → (emission downstream : ℕ) (r : Outcome)
       → Measured d emission downstream r → Results (cs then call.measure emission downstream) (answer_of r.answer ∷ ss) r.day
   allot : {cs : Calls} {ss : List Answer} {d : PointDay} → Results cs ss d → (r : Outcome) → Allotted d r

@@ -14,7 +14,6 @@ use Rattle.point_day.specs.Calls.{verdict, join, cell_step, cell_in, line_right,
 use Rattle.point_day.specs.Struct.{user_at, read, padded, laid, any, faults, taken, called}
 use Rattle.point_day.specs.declared.PointDay.{PointDay}
 use Rattle.point_day.specs.declared.Stage.TheVariants.{Provisional}
-use Rattle.point_day.specs.declared.Measurement.TheVariants.{Measured}
 use Rattle.day_book.specs.Run as calls
 use Rattle.day_book.specs.Run.{◌then◌, move, run}
 use Rattle.wire.specs.Bytes.{little_endian}
@@ -38,6 +37,7 @@ use Rattle.type_1.specs.MonthConsumption.{month_other}
 use Rattle.type_1.specs.DayShare.{day_of}
 use Rattle.type_1.specs.Type1.{other_right, other_toll}
 use Rattle.examples.specs.Examples.{Example, example, Holds, AllHold, Last, last, file_E, E_allotted, printed, examples}
+use Rattle.point_day.specs.Day.{metered}
 
 -- to unfold one of these is to compute: lists and proration; the calls; file E's calls; a text; the calendar; a supply point
 lists : Unit {0}
@@ -70,7 +70,7 @@ E_day : Day
 E_day = record {
   stage = Provisional;
   allotted = true;
-  measurement = Measured 1000 100;
+  measurement = metered 1000 100;
   users =
       record {
         number = 7;

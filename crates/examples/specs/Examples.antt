@@ -1,7 +1,7 @@
 -- Document 01, section "Examples, P to be proved": one list, each example as what the definitions compute and the document's figures.
 -- Assumes nothing.
 use mathlib.Core.List.{List, [], ◌∷◌, ◌++◌, map, foldl}
-use Rattle.std.specs.Prelude.{◌≡◌, ℕ, ◌+◌, ℤ, pos, neg_ℤ}
+use Rattle.std.specs.Prelude.{Option, None, Some, ◌≡◌, ℕ, ◌+◌, ℤ, pos, neg_ℤ}
 use Prim.Native.Char.{code}
 use Prim.Native.String.{String, len, char_at}
 use Rattle.numbers.specs.Sums.{table, total, totalZ}
@@ -20,8 +20,6 @@ use Rattle.months.specs.Months.{month_of}
 use Rattle.months.specs.WorkingDays.{N_lab}
 use Rattle.degree_days.specs.Degrees.{degree_days_call}
 use Rattle.zones.specs.Zones.{zone_call}
-use Rattle.supply.specs.declared.Amount.{Amount}
-use Rattle.supply.specs.declared.Amount.TheVariants.{Missing, Known}
 use Rattle.supply.specs.declared.Toll.{Toll}
 use Rattle.supply.specs.declared.Toll.TheVariants.{Toll34, OtherToll}
 use Rattle.supply.specs.declared.Flows.{Flows}
@@ -29,7 +27,6 @@ use Rattle.history.specs.declared.Reading.{Reading}
 use Rattle.history.specs.declared.Reading.TheVariants.{Nothing, Real, Estimated}
 use Rattle.history.specs.declared.Entry.{Entry}
 use Rattle.telemetered.specs.Telemetered.{telemetered}
-use Rattle.telemetered.specs.declared.OwnValue.TheVariants.{NotSent}
 use Rattle.type_1.specs.Type1.{other_toll}
 
 -- ---- an example
@@ -120,8 +117,8 @@ abbrev pub entry : Reading → Entry
 entry r = record { reading = r }
 
 -- Q_a, no Q_d, f_c 750
-abbrev pub flows : Toll → Amount → Flows
-flows toll Q_a = record { toll = toll; yearly = Q_a; daily = Missing; factor = 750 }
+abbrev pub flows : Toll → Option ℕ → Flows
+flows toll Q_a = record { toll = toll; yearly = Q_a; daily = None; factor = 750 }
 
 -- ---- the list
 
@@ -160,7 +157,7 @@ examples =
     -- "P5: gas day a Friday, no holidays; Thursday 100 real, Wednesday nothing, Tuesday 999 estimated, Monday 101 real,
     -- Sunday and Saturday 7 real, Friday 101 real: 101, looked at 7". Gas day 7 is a Friday
     ∷ example "P5"
-    (telemetered 7 [] Missing NotSent (flows OtherToll Missing) 7
+    (telemetered 7 [] None None (flows OtherToll None) 7
     (entry (Real 100)
     ∷ entry Nothing
     ∷ entry (Estimated 999)
@@ -172,13 +169,13 @@ examples =
     (given (record { kwh = 101; looked = 7 }))
     -- "P6: telemetered, new, Q_a 315, toll 3.4: 2"
     ∷ example "P6"
-    (telemetered 7 [] Missing NotSent (flows Toll34 (Known 315)) 0 [])
+    (telemetered 7 [] None None (flows Toll34 (Some 315)) 0 [])
     (given (record { kwh = 2; looked = 0 }))
     -- "P7: other toll, June 2016, no holidays, 10,000 last year, C_c 10,000, C_f 850: N_lab 22, working day 386, others 188".
     -- Gas day 152 is Wednesday 1 June 2016; a row is a week, from Monday to Sunday
     ∷ example "P7, N_lab" (N_lab [] (month_of 152)) 22
     ∷ example "P7, each day"
-    (table (λ i. other_toll (152 + i) [] (Known 10000) 10000 Missing Missing 750 850) 30)
+    (table (λ i. other_toll (152 + i) [] (Some 10000) 10000 None None 750 850) 30)
     (map given
     (386 ∷ 386 ∷ 386 ∷ 188 ∷ 188
     ∷ 386 ∷ 386 ∷ 386 ∷ 386 ∷ 386 ∷ 188 ∷ 188

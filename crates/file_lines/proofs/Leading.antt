@@ -25,26 +25,27 @@ use Rattle.day_file.specs.Report.{refused, in_order}
 use Rattle.file_lines.specs.Entering.{entering, Entered, UnlessRefused, ComesTo}
 use Rattle.file_lines.specs.Pieces.{line_so_far, is_added}
 use Rattle.file_lines.proofs.Steps.{line_out, line_past, line_added, line_entered}
+use Rattle.std.specs.Prelude.{Option}
 
 -- the calls lead from one point-day to another; the calls stop with a refusal
-abbrev pub Leads : List Call → (Measurement → PointDay) → (Measurement → PointDay) → Type 0
-Leads cs p q = (g : ℕ) (m : Measurement) (rest : List Call) → measurement_right m ≡ true → in_order g (cs ++ rest) (p m) ≡ in_order g rest (q m)
+abbrev pub Leads : List Call → (Option Measurement → PointDay) → (Option Measurement → PointDay) → Type 0
+Leads cs p q = (g : ℕ) (m : Option Measurement) (rest : List Call) → measurement_right m ≡ true → in_order g (cs ++ rest) (p m) ≡ in_order g rest (q m)
 
-abbrev pub Stops : ℕ → List Call → (Measurement → PointDay) → Type 0
-Stops k cs p = (g : ℕ) (m : Measurement) (rest : List Call) → measurement_right m ≡ true → in_order g (cs ++ rest) (p m) ≡ refused k
+abbrev pub Stops : ℕ → List Call → (Option Measurement → PointDay) → Type 0
+Stops k cs p = (g : ℕ) (m : Option Measurement) (rest : List Call) → measurement_right m ≡ true → in_order g (cs ++ rest) (p m) ≡ refused k
 
-module _ (p q : Measurement → PointDay) where
-  pub leads_then : (s : Measurement → PointDay) (ds bs : List Call) → Leads ds p q → Leads bs q s → Leads (ds ++ bs) p s
+module _ (p q : Option Measurement → PointDay) where
+  pub leads_then : (s : Option Measurement → PointDay) (ds bs : List Call) → Leads ds p q → Leads bs q s → Leads (ds ++ bs) p s
   leads_then s ds bs h k g m rest r = rw (append_assoc ds bs rest) (h g m (bs ++ rest) r ∙ k g m rest r)
 
   pub leads_stop : {n : ℕ} (ds bs : List Call) → Leads ds p q → Stops n bs q → Stops n (ds ++ bs) p
   leads_stop ds bs h k g m rest r = rw (append_assoc ds bs rest) (h g m (bs ++ rest) r ∙ k g m rest r)
 
-pub stops_there : {n : ℕ} (p : Measurement → PointDay) (ds bs : List Call) → Stops n ds p → Stops n (ds ++ bs) p
+pub stops_there : {n : ℕ} (p : Option Measurement → PointDay) (ds bs : List Call) → Stops n ds p → Stops n (ds ++ bs) p
 stops_there p ds bs h g m rest r = rw (append_assoc ds bs rest) (h g m (bs ++ rest) r)
 
 -- an answer that is a refusal
-pub stopped : {r : Result ℕ Refusal} {e : Refusal} → r ≡ Err e → (cs : List Call) (p q : Measurement → PointDay) → Stops (number_of e) cs p → ComesTo r cs p q
+pub stopped : {r : Result ℕ Refusal} {e : Refusal} → r ≡ Err e → (cs : List Call) (p q : Option Measurement → PointDay) → Stops (number_of e) cs p → ComesTo r cs p q
 stopped e cs p q h = subst⁻¹ (λ r. ComesTo r cs p q) e h
 
 -- ---- calls in a table

@@ -20,10 +20,8 @@ use Rattle.point_day.specs.Calls.{Answer, done, losses_added, line_right}
 use Rattle.point_day.specs.Calls as calls
 use Rattle.point_day.specs.Struct.{Sized, Outcome, user_at, read, none_below, taken, outcome, called}
 use Rattle.point_day.specs.declared.Measurement.{Measurement}
-use Rattle.point_day.specs.declared.Measurement.TheVariants.{Unmeasured}
 use Rattle.point_day.specs.declared.PointDay.{PointDay}
 use Rattle.point_day.proofs.Taken.{taken_facts}
-use Rattle.state.specs.Places.{Placed}
 use Rattle.state.proofs.Totals.{offtake_is}
 use Rattle.numbers.proofs.Places.{every_at}
 use Rattle.state.proofs.Cells.{low_from}
@@ -40,6 +38,7 @@ use Rattle.day_file.specs.Report.{refused, unless_refused, in_order}
 use Rattle.file_lines.specs.Entering.{entering, Entered}
 use Rattle.file_lines.specs.Pieces.{user_refusal}
 use Rattle.file_lines.proofs.Taking.{outcome_taken}
+use Rattle.std.specs.Prelude.{Option, None}
 
 -- a call and what follows it
 pub step : (g : ℕ) (c : Call) (rest : List Call) (p : PointDay) {a : Answer} {q : PointDay} → outcome a q ≡ called (move c) p
@@ -54,7 +53,7 @@ number_low l = omega arith
 -- ---- the arrays
 
 module _ {n : ℕ} {us : List ℕ} {cs ls : List ℤ} {x : ℕ} (s : Entered n us cs ls x) where
-  pub sized : (m : Measurement) → Sized (entering n us cs ls m)
+  pub sized : (m : Option Measurement) → Sized (entering n us cs ls m)
   unfolding entering
   sized m = record {
     users = s.users;
@@ -65,26 +64,26 @@ module _ {n : ℕ} {us : List ℕ} {cs ls : List ℤ} {x : ℕ} (s : Entered n u
   }
 
 -- the offtake of taken arrays is the sum of their cells
-offtake_of : (n : ℕ) (us : List ℕ) (cs ls : List ℤ) (m : Measurement) → taken (entering n us cs ls m) ≡ true
+offtake_of : (n : ℕ) (us : List ℕ) (cs ls : List ℤ) (m : Option Measurement) → taken (entering n us cs ls m) ≡ true
     → all_offtake (read (entering n us cs ls m)).users ≡ total (map nat_abs cs) + total (map nat_abs ls)
 offtake_of n us cs ls m e =
     let t = taken_facts (entering n us cs ls m) e in
     offtake_is (entering n us cs ls m) t.past.consumption t.past.losses ∙ (unfold entering in refl)
 
-same_users : (n : ℕ) (us : List ℕ) (cs ls : List ℤ) (m : Measurement) → (read (entering n us cs ls Unmeasured)).users ≡ (read (entering n us cs ls m)).users
+same_users : (n : ℕ) (us : List ℕ) (cs ls : List ℤ) (m : Option Measurement) → (read (entering n us cs ls None)).users ≡ (read (entering n us cs ls m)).users
 unfolding read user_at entering
 same_users n us cs ls m = refl
 
 module _ {n : ℕ} {us : List ℕ} {cs ls : List ℤ} {x : ℕ} (s : Entered n us cs ls x) where
   pub sum_is : x ≡ total (map nat_abs cs) + total (map nat_abs ls)
-  sum_is = s.sum ∙ offtake_of n us cs ls Unmeasured (s.taken Unmeasured refl)
+  sum_is = s.sum ∙ offtake_of n us cs ls None (s.taken None refl)
 
   -- what a line at a cell asks
-  fact : Facts (entering n us cs ls Unmeasured)
-  fact = facts (entering n us cs ls Unmeasured) (sized s Unmeasured) (s.taken Unmeasured refl)
+  fact : Facts (entering n us cs ls None)
+  fact = facts (entering n us cs ls None) (sized s None) (s.taken None refl)
 
   pub sum_small : x ≤ LIMIT
-  sum_small = rw s.sum (taken_facts (entering n us cs ls Unmeasured) (s.taken Unmeasured refl)).offtake
+  sum_small = rw s.sum (taken_facts (entering n us cs ls None) (s.taken None refl)).offtake
 
   pub few : n ≤ USERS
   few = unfold entering in fact.few
@@ -96,38 +95,38 @@ module _ {n : ℕ} {us : List ℕ} {cs ls : List ℤ} {x : ℕ} (s : Entered n u
   limited_losses = low_from LIMIT ls (unfold entering in fact.arrays.losses.range) LIMIT (omega arith)
 
   none_below_consumption : none_below cs ≡ true
-  none_below_consumption = unfold entering in (taken_facts (entering n us cs ls Unmeasured) (s.taken Unmeasured refl)).consumption
+  none_below_consumption = unfold entering in (taken_facts (entering n us cs ls None) (s.taken None refl)).consumption
 
   none_below_losses : none_below ls ≡ true
-  none_below_losses = unfold entering in (taken_facts (entering n us cs ls Unmeasured) (s.taken Unmeasured refl)).losses
+  none_below_losses = unfold entering in (taken_facts (entering n us cs ls None) (s.taken None refl)).losses
 
   -- ---- a user joins
 
   module _ (u : ℕ) (l : u ≤ LAST_NUMBER) where
-    pub user_2 : u ≡ 0 → (g : ℕ) (m : Measurement) (rest : List Call) → measurement_right m ≡ true → in_order g (join u ∷ rest) (entering n us cs ls m) ≡ refused 2
+    pub user_2 : u ≡ 0 → (g : ℕ) (m : Option Measurement) (rest : List Call) → measurement_right m ≡ true → in_order g (join u ∷ rest) (entering n us cs ls m) ≡ refused 2
     user_2 e g m rest h = step g (join u) rest (entering n us cs ls m) (join_2 u (entering n us cs ls m) (sized s m) (s.taken m h) (unfold entering in refl) e)
 
     module _ (e : u ≡ 0 → ⊥) where
-      pub user_4 : has u (take n us) ≡ true → (g : ℕ) (m : Measurement) (rest : List Call) → measurement_right m ≡ true → in_order g (join u ∷ rest) (entering n us cs ls m) ≡ refused 4
+      pub user_4 : has u (take n us) ≡ true → (g : ℕ) (m : Option Measurement) (rest : List Call) → measurement_right m ≡ true → in_order g (join u ∷ rest) (entering n us cs ls m) ≡ refused 4
       user_4 f g m rest h =
           step g (join u) rest (entering n us cs ls m) (join_4 u (entering n us cs ls m) (sized s m) (s.taken m h) (unfold entering in refl) e l (unfold entering in f))
 
       module _ (f : has u (take n us) ≡ false) where
-        pub user_5 : USERS ≤ n → (g : ℕ) (m : Measurement) (rest : List Call) → measurement_right m ≡ true → in_order g (join u ∷ rest) (entering n us cs ls m) ≡ refused 5
+        pub user_5 : USERS ≤ n → (g : ℕ) (m : Option Measurement) (rest : List Call) → measurement_right m ≡ true → in_order g (join u ∷ rest) (entering n us cs ls m) ≡ refused 5
         user_5 k g m rest h =
             step g (join u) rest (entering n us cs ls m)
             (join_5 u (entering n us cs ls m) (sized s m) (s.taken m h) (unfold entering in refl) e l (unfold entering in f) (unfold entering in k))
 
         module _ (k : n < USERS) where
-          joined : (m : Measurement) → measurement_right m ≡ true → outcome done (entering (n + 1) (set us n u) cs ls m) ≡ called (calls.join u) (entering n us cs ls m)
+          joined : (m : Option Measurement) → measurement_right m ≡ true → outcome done (entering (n + 1) (set us n u) cs ls m) ≡ called (calls.join u) (entering n us cs ls m)
           joined m h =
               join_done u (entering n us cs ls m) (sized s m) (s.taken m h) (unfold entering in refl) e l (unfold entering in f) (unfold entering in k) (unfold entering in refl)
 
-          pub user_done : (g : ℕ) (m : Measurement) (rest : List Call) → measurement_right m ≡ true
+          pub user_done : (g : ℕ) (m : Option Measurement) (rest : List Call) → measurement_right m ≡ true
               → in_order g (join u ∷ rest) (entering n us cs ls m) ≡ in_order g rest (entering (n + 1) (set us n u) cs ls m)
           user_done g m rest h = step g (join u) rest (entering n us cs ls m) (joined m h)
 
-          joined_taken : (m : Measurement) → measurement_right m ≡ true → taken (entering (n + 1) (set us n u) cs ls m) ≡ true
+          joined_taken : (m : Option Measurement) → measurement_right m ≡ true → taken (entering (n + 1) (set us n u) cs ls m) ≡ true
           joined_taken m h = outcome_taken (entering n us cs ls m) (sized s m) (s.taken m h) (unfold entering in refl) (join u) (joined m h)
 
           pub user_entered : Entered (n + 1) (set us n u) cs ls x
@@ -136,7 +135,7 @@ module _ {n : ℕ} {us : List ℕ} {cs ls : List ℤ} {x : ℕ} (s : Entered n u
             consumption = s.consumption;
             losses = s.losses;
             taken = joined_taken;
-            sum = sum_is ∙ sym (offtake_of (n + 1) (set us n u) cs ls Unmeasured (joined_taken Unmeasured refl));
+            sum = sum_is ∙ sym (offtake_of (n + 1) (set us n u) cs ls None (joined_taken None refl));
           }
 
 -- ---- a line
@@ -150,36 +149,33 @@ more_total xs i v h l =
     size (pos a) e = refl
     size (negsuc a) e = true≢false e
 
-cells_of : (n : ℕ) (us : List ℕ) (cs ls : List ℤ) (m : Measurement) (j v w : ℕ)
+cells_of : (n : ℕ) (us : List ℕ) (cs ls : List ℤ) (m : Option Measurement) (j v w : ℕ)
     → entering n us (more j v cs) (more j w ls) m ≡ with_cells (more j v (entering n us cs ls m).consumption) (more j w (entering n us cs ls m).losses) (entering n us cs ls m)
 unfolding entering
 cells_of n us cs ls m j v w = refl
 
 module _ (i : ℕ) {us : List ℕ} {cs ls : List ℤ} {x : ℕ} (s : Entered (i + 1) us cs ls x) (u kind c k : ℕ) (here : get_or us i 0 ≡ u) where
-  pub line_out : line_right u kind c k ≡ false → (g : ℕ) (m : Measurement) (rest : List Call) → measurement_right m ≡ true
+  pub line_out : line_right u kind c k ≡ false → (g : ℕ) (m : Option Measurement) (rest : List Call) → measurement_right m ≡ true
       → in_order g (line u kind c k ∷ rest) (entering (i + 1) us cs ls m) ≡ refused 2
   line_out e g m rest h =
       step g (line u kind c k) rest (entering (i + 1) us cs ls m)
       (line_2 u kind c k (entering (i + 1) us cs ls m) (sized s m) (s.taken m h) (unfold entering in refl) e)
 
   module _ (e : line_right u kind c k ≡ true) where
-    placed : Placed u (i + 1) us i
-    placed = record { within = omega arith; there = λ l. here; missing = λ q. absurd (omega arith) }
-
-    lined : (m : Measurement) → measurement_right m ≡ true
+    lined : (m : Option Measurement) → measurement_right m ≡ true
         → lined_at i kind c k x (entering (i + 1) us cs ls m) ≡ called (calls.line u kind c k) (entering (i + 1) us cs ls m)
     lined m h =
-        line_done u kind c k (entering (i + 1) us cs ls m) (sized s m) (s.taken m h) (unfold entering in refl) e i (unfold entering in placed)
-        (unfold entering in omega arith) x (s.sum ∙ ap all_offtake (same_users (i + 1) us cs ls m))
+        line_done u kind c k (entering (i + 1) us cs ls m) (sized s m) (s.taken m h) (unfold entering in refl) e i (unfold entering in omega arith)
+        (unfold entering in here) x (s.sum ∙ ap all_offtake (same_users (i + 1) us cs ls m))
 
-    pub line_past : past_limit x c k ≡ true → (g : ℕ) (m : Measurement) (rest : List Call) → measurement_right m ≡ true
+    pub line_past : past_limit x c k ≡ true → (g : ℕ) (m : Option Measurement) (rest : List Call) → measurement_right m ≡ true
         → in_order g (line u kind c k ∷ rest) (entering (i + 1) us cs ls m) ≡ refused 6
     line_past f g m rest h =
         step g (line u kind c k) rest (entering (i + 1) us cs ls m) (lined m h)
         ∙ ap (λ b. unless_refused (verdict_of (pick b (calls.refused 6) (losses_added (line_losses c k)))) (in_order g rest (lined_at i kind c k x (entering (i + 1) us cs ls m)).day)) f
 
     module _ (f : past_limit x c k ≡ false) where
-      added : (m : Measurement) → measurement_right m ≡ true
+      added : (m : Option Measurement) → measurement_right m ≡ true
           → outcome (losses_added (line_losses c k)) (entering (i + 1) us (more (place i kind) c cs) (more (place i kind) (line_losses c k) ls) m) ≡ called (calls.line u kind c k) (entering (i + 1) us cs ls m)
       added m h = ap (outcome (losses_added (line_losses c k))) (cells_of (i + 1) us cs ls m (place i kind) c (line_losses c k)) ∙ sym (ap go f) ∙ lined m h
         where
@@ -188,11 +184,11 @@ module _ (i : ℕ) {us : List ℕ} {cs ls : List ℤ} {x : ℕ} (s : Entered (i 
               outcome (pick b (calls.refused 6) (losses_added (line_losses c k)))
               (pick b (entering (i + 1) us cs ls m) (with_cells (more (place i kind) c (entering (i + 1) us cs ls m).consumption) (more (place i kind) (line_losses c k) (entering (i + 1) us cs ls m).losses) (entering (i + 1) us cs ls m)))
 
-      pub line_added : (g : ℕ) (m : Measurement) (rest : List Call) → measurement_right m ≡ true
+      pub line_added : (g : ℕ) (m : Option Measurement) (rest : List Call) → measurement_right m ≡ true
           → in_order g (line u kind c k ∷ rest) (entering (i + 1) us cs ls m) ≡ in_order g rest (entering (i + 1) us (more (place i kind) c cs) (more (place i kind) (line_losses c k) ls) m)
       line_added g m rest h = step g (line u kind c k) rest (entering (i + 1) us cs ls m) (added m h)
 
-      added_taken : (m : Measurement) → measurement_right m ≡ true → taken (entering (i + 1) us (more (place i kind) c cs) (more (place i kind) (line_losses c k) ls) m) ≡ true
+      added_taken : (m : Option Measurement) → measurement_right m ≡ true → taken (entering (i + 1) us (more (place i kind) c cs) (more (place i kind) (line_losses c k) ls) m) ≡ true
       added_taken m h = outcome_taken (entering (i + 1) us cs ls m) (sized s m) (s.taken m h) (unfold entering in refl) (line u kind c k) (added m h)
 
       pub line_entered : Entered (i + 1) us (more (place i kind) c cs) (more (place i kind) (line_losses c k) ls) (x + (c + line_losses c k))
@@ -207,7 +203,7 @@ module _ (i : ℕ) {us : List ℕ} {cs ls : List ℤ} {x : ℕ} (s : Entered (i 
                 sums (total (map nat_abs cs)) (total (map nat_abs ls)) (sum_is s)
                 (more_total cs (place i kind) c (none_below_consumption s) (omega (arith, s.consumption, few s, r.high)))
                 (more_total ls (place i kind) (line_losses c k) (none_below_losses s) (omega (arith, s.losses, few s, r.high)))
-                ∙ sym (offtake_of (i + 1) us (more (place i kind) c cs) (more (place i kind) (line_losses c k) ls) Unmeasured (added_taken Unmeasured refl));
+                ∙ sym (offtake_of (i + 1) us (more (place i kind) c cs) (more (place i kind) (line_losses c k) ls) None (added_taken None refl));
           }
         where
           sums : (a b : ℕ) {a' b' : ℕ} → x ≡ a + b → a' ≡ a + c → b' ≡ b + line_losses c k → x + (c + line_losses c k) ≡ a' + b'
@@ -236,13 +232,13 @@ tells u n us = first (eqb u 0) refl
     first false h = second (eqb-false u 0 h) (has u (take n us)) refl
 
 module _ {n : ℕ} {us : List ℕ} {cs ls : List ℤ} {x : ℕ} (s : Entered n us cs ls x) (u : ℕ) (l : u ≤ LAST_NUMBER) where
-  refused_by : {r : ℕ} → Told u n us r → (r ≡ 0 → ⊥) → (g : ℕ) (m : Measurement) (rest : List Call) → measurement_right m ≡ true → in_order g (join u ∷ rest) (entering n us cs ls m) ≡ refused r
+  refused_by : {r : ℕ} → Told u n us r → (r ≡ 0 → ⊥) → (g : ℕ) (m : Option Measurement) (rest : List Call) → measurement_right m ≡ true → in_order g (join u ∷ rest) (entering n us cs ls m) ≡ refused r
   refused_by (none e) h = user_2 s u l e
   refused_by (twice e f) h = user_4 s u l e f
   refused_by (full e f k) h = user_5 s u l e f k
   refused_by (free e f k) h = absurd (h refl)
 
-  pub user_refused : {r : ℕ} → r ≡ user_refusal USERS u n us → (r ≡ 0 → ⊥) → (g : ℕ) (m : Measurement) (rest : List Call) → measurement_right m ≡ true
+  pub user_refused : {r : ℕ} → r ≡ user_refusal USERS u n us → (r ≡ 0 → ⊥) → (g : ℕ) (m : Option Measurement) (rest : List Call) → measurement_right m ≡ true
       → in_order g (join u ∷ rest) (entering n us cs ls m) ≡ refused r
   user_refused e h = refused_by (subst (Told u n us) (sym e) (tells u n us)) h
 
@@ -251,7 +247,7 @@ module _ {n : ℕ} {us : List ℕ} {cs ls : List ℤ} {x : ℕ} (s : Entered n u
     pub room : n < USERS
     pub here : get_or us' n 0 ≡ u
     pub entered : Entered (n + 1) us' cs ls x
-    pub goes_on : (g : ℕ) (m : Measurement) (rest : List Call) → measurement_right m ≡ true → in_order g (join u ∷ rest) (entering n us cs ls m) ≡ in_order g rest (entering (n + 1) us' cs ls m)
+    pub goes_on : (g : ℕ) (m : Option Measurement) (rest : List Call) → measurement_right m ≡ true → in_order g (join u ∷ rest) (entering n us cs ls m) ≡ in_order g rest (entering (n + 1) us' cs ls m)
 
   joined_by : {r : ℕ} → Told u n us r → r ≡ 0 → Joined (set us n u)
   joined_by (none e) h = absurd (omega arith)

@@ -9,13 +9,13 @@ use Rattle.point_day.specs.Day.{all_offtake, measurement_right}
 use Rattle.point_day.specs.Struct.{read, taken}
 use Rattle.point_day.specs.declared.Stage.TheVariants.{Provisional}
 use Rattle.point_day.specs.declared.Measurement.{Measurement}
-use Rattle.point_day.specs.declared.Measurement.TheVariants.{Unmeasured}
 use Rattle.point_day.specs.declared.PointDay.{PointDay}
 use Rattle.day_book.specs.Run.{Call}
 use Rattle.day_file.specs.Report.{refused, in_order}
+use Rattle.std.specs.Prelude.{Option, None}
 
 -- the point-day of n users, their numbers, consumption and losses, with a measurement and nothing allotted yet
-unfoldable pub entering : ℕ → List ℕ → List ℤ → List ℤ → Measurement → PointDay
+unfoldable pub entering : ℕ → List ℕ → List ℤ → List ℤ → Option Measurement → PointDay
 entering n us cs ls m = point_day Provisional false m n us cs ls (replicate CELLS (pos 0)) (replicate USERS (pos 0))
 
 -- with any measurement in range it is taken, and its consumption and losses sum to `offtake`
@@ -23,8 +23,8 @@ pub record Entered (n : ℕ) (us : List ℕ) (cs ls : List ℤ) (offtake : ℕ) 
   pub users : length us ≡ USERS
   pub consumption : length cs ≡ CELLS
   pub losses : length ls ≡ CELLS
-  pub taken : (m : Measurement) → measurement_right m ≡ true → taken (entering n us cs ls m) ≡ true
-  pub sum : offtake ≡ all_offtake (read (entering n us cs ls Unmeasured)).users
+  pub taken : (m : Option Measurement) → measurement_right m ≡ true → taken (entering n us cs ls m) ≡ true
+  pub sum : offtake ≡ all_offtake (read (entering n us cs ls None)).users
 
 -- what an answer promises of the offtake that it holds
 abbrev pub UnlessRefused : Result ℕ Refusal → (ℕ → Type 0) → Type 0
@@ -32,13 +32,13 @@ UnlessRefused (Err r) P = Unit {0}
 UnlessRefused (Ok x) P = P x
 
 -- what calls come to on a point-day, whatever its measurement and the calls after them
-abbrev pub ComesTo : Result ℕ Refusal → List Call → (Measurement → PointDay) → (Measurement → PointDay) → Type 0
-ComesTo (Err r) calls before after = (day : ℕ) (m : Measurement) (rest : List Call) → measurement_right m ≡ true
+abbrev pub ComesTo : Result ℕ Refusal → List Call → (Option Measurement → PointDay) → (Option Measurement → PointDay) → Type 0
+ComesTo (Err r) calls before after = (day : ℕ) (m : Option Measurement) (rest : List Call) → measurement_right m ≡ true
     → in_order day (calls ++ rest) (before m) ≡ refused (number_of r)
-ComesTo (Ok x) calls before after = (day : ℕ) (m : Measurement) (rest : List Call) → measurement_right m ≡ true
+ComesTo (Ok x) calls before after = (day : ℕ) (m : Option Measurement) (rest : List Call) → measurement_right m ≡ true
     → in_order day (calls ++ rest) (before m) ≡ in_order day rest (after m)
 
 -- ---- a measured point-day without users
 
-unfoldable pub unjoined : Measurement → PointDay
+unfoldable pub unjoined : Option Measurement → PointDay
 unjoined m = entering 0 (replicate USERS 0) (replicate CELLS (pos 0)) (replicate CELLS (pos 0)) m

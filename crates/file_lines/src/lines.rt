@@ -63,7 +63,7 @@ pub fn enter_user(
     if user == 0 {
         return Err(Refusal::OutOfRange);
     }
-    if state::slot_of(users, slot, user) < slot {
+    if state::slot_of(&users[..slot], user).is_some() {
         return Err(Refusal::AlreadyJoined);
     }
     if limit <= slot {

@@ -10,8 +10,8 @@ use Rattle.point_day.specs.Calls.{Test, ◌when◌, Verdict, refuse, accept, ver
 use Rattle.point_day.specs.Struct.{read, taken}
 use Rattle.point_day.specs.declared.PointDay.{PointDay}
 use Rattle.point_day.specs.declared.Stage.TheVariants.{Provisional}
-use Rattle.point_day.specs.declared.Measurement.TheVariants.{Measured}
 use Rattle.inventory.specs.Row.{ROW}
+use Rattle.point_day.specs.Day.{metered}
 
 -- ---- rows
 
@@ -100,7 +100,7 @@ sample : Day
 sample = record {
   stage = Provisional;
   allotted = true;
-  measurement = Measured 1000 100;
+  measurement = metered 1000 100;
   users =
       user 7 (300 ∷ 0 ∷ 200 ∷ 0 ∷ 0 ∷ []) (3 ∷ 0 ∷ 0 ∷ 0 ∷ 0 ∷ []) (pos 0 ∷ pos 0 ∷ pos 96 ∷ pos 0 ∷ pos 0 ∷ []) 0
       ∷ user 5 (replicate KINDS 0) (replicate KINDS 0) (replicate KINDS (pos 0)) 8

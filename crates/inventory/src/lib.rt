@@ -11,6 +11,7 @@ ghost use Rattle.taken.specs.Tested.{Finds};
 ghost use Rattle.inventory.specs.Inventory.{inventory, answer_of, Afterwards};
 ghost use Rattle.inventory.specs.Listed.{Ends};
 
+use cells::Amounts;
 use numbers::Refusal;
 use point_day::{KINDS, PointDay};
 use row::ROW;
@@ -31,11 +32,16 @@ pub fn list_rows<'a>(
         return Err(Refusal::WrongStage);
     }
     let n = KINDS * state.count;
-    let rows = cells::count_rows(consumption, losses, balance, n);
+    let amounts = Amounts {
+        consumption,
+        losses,
+        balance,
+    };
+    let rows = amounts.count_rows(n);
     if out.len() < ROW * rows {
         return Err(Refusal::ShortBuffer);
     }
-    cells::write_rows(&state.users, consumption, losses, balance, n, out);
+    amounts.write_rows(&state.users, n, out);
     Ok(rows)
 }
 

@@ -41,7 +41,7 @@ pub fn join_test(state: &State, user: u16) -> Result<(), Refusal>
     if user == 0 {
         return Err(Refusal::OutOfRange);
     }
-    if state::slot_of(&state.users, count, user) < count {
+    if state::slot_of(&state.users[..count], user).is_some() {
         return Err(Refusal::AlreadyJoined);
     }
     if USERS <= count {

@@ -6,7 +6,7 @@ use Prim.Native.Nat.{ℕ, zero, suc, ◌+◌, ◌-◌, ◌*◌, ◌≤◌, ◌<�
 use native.Mathlib.Omega.{arith}
 use lib.Dec.{ltb}
 use lib.IntN.{pos, nat_abs}
-use lib.ListN.{length, get_or, take, set, length-map, length-set, get_or-map}
+use lib.ListN.{length-take, length, get_or, take, set, length-map, length-set, get_or-map}
 use lib.Seq.{get_or-take, map-set_same}
 use mir.Syntax.{w64}
 use mir.Val.{of_z, to_z}
@@ -26,7 +26,7 @@ use Rattle.point_day.proofs.Arrays.{Full, nobody, length_flat}
 use Rattle.point_day.proofs.Back.{read_full, read_count, read_numbers, laid_read}
 use Rattle.point_day.proofs.Steps.{for_nobody}
 use Rattle.point_day.proofs.Called.{called_refused, called_accepted, test_holds, test_passed, none_left}
-use Rattle.state.specs.Places.{Placed, more}
+use Rattle.state.specs.Places.{more}
 use Rattle.taken.specs.Tested.{Known}
 use Rattle.taken.specs.declared.State.{State}
 use Rattle.taken.proofs.Facts.{sum_kept, entering_sum}
@@ -102,15 +102,15 @@ module _ (n kind c k : ℕ) (d : PointDay) (z : Sized d) (ok : taken d ≡ true)
     pub line_2 : line_right n kind c k ≡ false → outcome (refused 2) d ≡ called (line n kind c k) d
     line_2 h = called_refused (line n kind c k) d 2 ok (line_tests ∙ test_passed 1 d.allotted _ e (test_holds 2 (not (line_right n kind c k)) _ (ap not h)))
 
-    module _ (h : line_right n kind c k ≡ true) (s : ℕ) (at-s : Placed n d.count d.users s) where
-      pub line_3 : s ≡ d.count → outcome (refused 3) d ≡ called (line n kind c k) d
+    module _ (h : line_right n kind c k ≡ true) where
+      pub line_3 : has n (take d.count d.users) ≡ false → outcome (refused 3) d ≡ called (line n kind c k) d
       line_3 m =
           called_refused (line n kind c k) d 3 ok
-          (line_tests ∙ test_passed 1 d.allotted _ e (test_passed 2 (not (line_right n kind c k)) _ (ap not h) (test_holds 3 (not (has n (take d.count d.users))) _ (ap not (at-s.missing m)))))
+          (line_tests ∙ test_passed 1 d.allotted _ e (test_passed 2 (not (line_right n kind c k)) _ (ap not h) (test_holds 3 (not (has n (take d.count d.users))) _ (ap not m))))
 
-      module _ (m : s < d.count) where
+      module _ (s : ℕ) (m : s < d.count) (there : get_or d.users s 0 ≡ n) where
         here : at (numbers (read d).users) s ≡ n
-        here = rw (read_numbers d z (taken_facts d ok)) (get_or-take d.count d.users s 0 m ∙ at-s.there m)
+        here = rw (read_numbers d z (taken_facts d ok)) (get_or-take d.count d.users s 0 m ∙ there)
 
         found : has n (take d.count d.users) ≡ true
         found =
@@ -162,6 +162,14 @@ module _ (n kind c k : ℕ) (d : PointDay) (z : Sized d) (ok : taken d ≡ true)
                 amount = r.consumption;
                 added = omega arith;
               }
+
+-- ---- a user that has joined
+
+pub standing_at : {us : List ℕ} {count offtake : ℕ} {d : PointDay} → Stands us count offtake d → (n slot : ℕ) → (slot < length (take count us)) × (get_or (take count us) slot 0 ≡ n)
+    → (slot < d.count) × (get_or d.users slot 0 ≡ n)
+standing_at {us} {count} s n slot q =
+    let m : slot < count = omega (arith, length-take count us, q.0) in
+    (omega (arith, s.joined), rw s.users (sym (get_or-take count us slot 0 m) ∙ q.1))
 
 -- ---- the test of the state
 

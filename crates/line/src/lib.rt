@@ -3,7 +3,7 @@
 
 pub mod cells;
 
-ghost use Rattle.std.specs.Prelude.{◌≡◌, true, List, ℕ, ◌≤◌, ◌<◌};
+ghost use Rattle.std.specs.Prelude.{◌≡◌, true, List, ℕ, ◌≤◌, ◌<◌, IfSome, take};
 ghost use Rattle.numbers.specs.Sums.{atZ};
 ghost use Rattle.numbers.specs.Amounts.{Within};
 ghost use Rattle.point_day.specs.Limits.{USERS, CELLS, LIMIT};
@@ -11,7 +11,7 @@ ghost use Rattle.point_day.specs.Calls.{line};
 ghost use Rattle.point_day.specs.Answers.{answer_of};
 ghost use Rattle.point_day.specs.Struct.{sum_right, outcome, called};
 ghost use Rattle.point_day.specs.declared.PointDay.{PointDay};
-ghost use Rattle.state.specs.Places.{Placed, more};
+ghost use Rattle.state.specs.Places.{SlotOf, more};
 ghost use Rattle.taken.specs.Tested.{Finds};
 ghost use Rattle.line.specs.Lined.{with_cells, Tested, Stands};
 
@@ -27,23 +27,22 @@ pub struct LineEffect {
     pub added: u64,
 }
 
-// The tests of a line on a taken point-day that is entering, of whose `count` users this one stands at `slot`, or at `count` if it has not
-// joined; `offtake` is all consumption and losses.
+// The tests of a line on a taken point-day that is entering, of whose users this one stands at `slot`, if it has joined; `offtake` is all
+// consumption and losses.
 pub fn slot_test(
-    slot: usize,
-    count: usize,
+    slot: Option<usize>,
     offtake: u64,
     entry: LineEntry,
 ) -> Result<LineEffect, Refusal>
-    requires { (slot ≤ count) × (count ≤ USERS) × (offtake ≤ LIMIT) }
-    ensures { (us : List ℕ) (d : PointDay) → Stands us count offtake d → Placed entry.user count us slot → Tested entry.user entry.kind entry.consumption entry.coefficient d result }
+    requires { IfSome slot (λ s. s < USERS) × (offtake ≤ LIMIT) }
+    ensures { (us : List ℕ) (count : ℕ) (d : PointDay) → Stands us count offtake d → SlotOf entry.user (take count us) slot → Tested entry.user entry.kind entry.consumption entry.coefficient d result }
 {
     if !entry.is_right() {
         return Err(Refusal::OutOfRange);
     }
-    if slot == count {
+    let Some(slot) = slot else {
         return Err(Refusal::NotJoined);
-    }
+    };
     let added = entry.losses();
     if LIMIT < offtake + (entry.consumption + added) {
         return Err(Refusal::AboveLimit);
@@ -62,9 +61,8 @@ pub fn line_test(state: &State, entry: LineEntry) -> Result<LineEffect, Refusal>
     if state.allotted {
         return Err(Refusal::WrongStage);
     }
-    let count = state.count;
-    let slot = state::slot_of(&state.users, count, entry.user);
-    slot_test(slot, count, state.sum as u64, entry)
+    let slot = state::slot_of(&state.users[..state.count], entry.user);
+    slot_test(slot, state.sum as u64, entry)
 }
 
 // The tests of a line, that of the point-day first.

@@ -60,9 +60,9 @@ struct LineLists<'a> {
 
 impl<'a> LineLists<'a> {
     // The arguments of line i.
-    fn entry(self, i: usize) -> LineEntry
-        requires { i < length self.users.now }
-        ensures { (result.user ≡ at self.users.now i) × (result.kind ≡ at self.kinds.now i) × (result.consumption ≡ at self.consumptions.now i) × (result.coefficient ≡ at self.coefficients.now i) }
+    fn entry(&self, i: usize) -> LineEntry
+        requires { i < length self.now.users.now }
+        ensures { (result.user ≡ at self.now.users.now i) × (result.kind ≡ at self.now.kinds.now i) × (result.consumption ≡ at self.now.consumptions.now i) × (result.coefficient ≡ at self.now.coefficients.now i) }
     {
         LineEntry {
             user: self.users[i],
@@ -112,10 +112,10 @@ fn enter_lines<'a>(
     slots: &'a [u16],
     count: usize,
     offtake: u64,
-    lines: LineLists<'a>,
+    lines: &'a LineLists<'a>,
 ) -> LinesEntered
     requires taken { (is_readable day.old ≡ true) × Stands slots.now count offtake (day_in day.old) }
-    ensures { plain (status_of result.end) (pos result.accepted ∷ pos result.losses ∷ []) day.new ≡ in_numbers (line_calls (lines_in lines.users.now lines.kinds.now lines.consumptions.now lines.coefficients.now) (day_in day.old)) day.old }
+    ensures { plain (status_of result.end) (pos result.accepted ∷ pos result.losses ∷ []) day.new ≡ in_numbers (line_calls (lines_in lines.now.users.now lines.now.kinds.now lines.now.consumptions.now lines.now.coefficients.now) (day_in day.old)) day.old }
 {
     let hints = hints_of(slots, count);
     let mut sum = offtake;
@@ -175,7 +175,8 @@ pub fn lines<'a>(
                 consumptions,
                 coefficients,
             };
-            enter_lines(day, &state.users, state.count, state.sum as u64, lines)
+            let offtake = state.sum as u64;
+            enter_lines(day, &state.users, state.count, offtake, &lines)
         }
     }
 }

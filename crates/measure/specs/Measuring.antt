@@ -4,12 +4,12 @@ use Rattle.point_day.specs.Fields.{set_measurement}
 use Rattle.point_day.specs.Day.{emission_right}
 use Rattle.point_day.specs.Calls.{refused, done, measure}
 use Rattle.point_day.specs.Struct.{taken, outcome, called}
-use Rattle.point_day.specs.declared.Measurement.TheVariants.{Measured}
 use Rattle.point_day.specs.declared.PointDay.{PointDay}
+use Rattle.point_day.specs.Day.{metered}
 
 -- a measure that passes its tests: the call stores emission e and downstream emission w
 pub record Measures (e w : ℕ) (d : PointDay) : Type 0 where
-  pub is : outcome done (set_measurement (Measured e w) d) ≡ called (measure e w) d
+  pub is : outcome done (set_measurement (metered e w) d) ≡ called (measure e w) d
   pub taken : taken d ≡ true
   pub right : emission_right e w ≡ true
 

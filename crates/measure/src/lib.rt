@@ -8,7 +8,7 @@ ghost use Rattle.point_day.specs.Day.{provisional};
 ghost use Rattle.point_day.specs.Calls.{measure};
 ghost use Rattle.point_day.specs.Answers.{answer_of};
 ghost use Rattle.point_day.specs.Struct.{outcome, called};
-ghost use Rattle.point_day.specs.declared.Measurement.TheVariants.{Measured};
+ghost use Rattle.point_day.specs.Day.{metered};
 ghost use Rattle.point_day.specs.Fields.{set_measurement};
 ghost use Rattle.taken.specs.Tested.{Finds};
 ghost use Rattle.measure.specs.Measuring.{Tested};
@@ -38,10 +38,13 @@ pub fn measure_test(state: &State, emission: u64, downstream: u64) -> Result<(),
 }
 
 fn remeasure(day: PointDay, emission: u64, downstream: u64) -> PointDay
-    ensures { result ≡ set_measurement (Measured emission downstream) day }
+    ensures { result ≡ set_measurement (metered emission downstream) day }
 {
     PointDay {
-        measurement: Measurement::Measured(emission, downstream),
+        measurement: Some(Measurement {
+            emission,
+            downstream,
+        }),
         ..day
     }
 }

@@ -1,12 +1,12 @@
 -- Months: their lengths, their starts, and the month that a gas day lies in. Assumes nothing.
 use mathlib.Core.Path.{◌≡◌, refl, ap, ap₂, ◌∙◌}
 use mathlib.Core.Bool.{Bool, true, false}
-use mathlib.Core.Logic.{◌⊎◌, inl, inr, ⊎_elim}
+use mathlib.Core.Logic.{⊎_elim}
 use mathlib.Core.List.{[], ◌∷◌}
 use Prim.Native.Nat.{ℕ, zero, suc, ◌+◌, ◌*◌, ◌/◌, ◌%◌, ◌≤◌, ◌<◌}
 use native.Mathlib.Omega.{arith}
 use lib.Dec.{eqb}
-use borrow.Author.Tests.{lt-ltb, le-ltb, ne_eqb}
+use borrow.Author.Tests.{lt-ltb, le-ltb}
 use Rattle.numbers.specs.Sums.{pick, sum}
 use Rattle.numbers.specs.Lists.{has}
 use Rattle.numbers.proofs.Sums.{lt_or_ge, sum_mono}
@@ -29,21 +29,6 @@ length_cases true true c = record { least = omega arith; most = omega arith }
 length_cases true false c = record { least = omega arith; most = omega arith }
 length_cases false b true = record { least = omega arith; most = omega arith }
 length_cases false b false = record { least = omega arith; most = omega arith }
-
-pub days_30 : (year month : ℕ) → (month ≡ 4) ⊎ ((month ≡ 6) ⊎ ((month ≡ 9) ⊎ (month ≡ 11))) → 30 ≡ month_days year month
-unfolding month_days has
-days_30 year month = ⊎_elim (λ e. rw e) (⊎_elim (λ e. rw e) (⊎_elim (λ e. rw e) (λ e. rw e)))
-
-pub days_31 : (year month : ℕ) → (month ≡ 2 → ⊥) → ((month ≡ 4) ⊎ ((month ≡ 6) ⊎ ((month ≡ 9) ⊎ (month ≡ 11))) → ⊥) → 31 ≡ month_days year month
-unfolding month_days has
-days_31 year month h k =
-    rw (
-      ne_eqb month 2 h,
-      ne_eqb month 4 (λ e. k (inl e)),
-      ne_eqb month 6 (λ e. k (inr (inl e))),
-      ne_eqb month 9 (λ e. k (inr (inr (inl e)))),
-      ne_eqb month 11 (λ e. k (inr (inr (inr e)))),
-    )
 
 pub month_length : (year month : ℕ) → Length (month_days year month)
 unfolding month_days

@@ -15,9 +15,10 @@ use Rattle.numbers.proofs.Lists.{true≢false, both_fst, both_snd}
 use Rattle.point_day.specs.Limits.{USERS, CELLS, LIMIT, LAST_NUMBER}
 use Rattle.point_day.specs.Day.{is_measured}
 use Rattle.point_day.specs.Struct.{Sized}
-use Rattle.point_day.specs.declared.Measurement.TheVariants.{Unmeasured, Measured}
 use Rattle.plain_day.specs.Layout.{LENGTH, USERS_AT, CONSUMPTION_AT, LOSSES_AT, BALANCE_AT, REVISION_AT, part, up_to, emissions_readable, head_readable, is_readable, stage_of, measurement_of, count_in, day_in, stage_number, emission_number, downstream_number, stored}
 use Rattle.plain_day.proofs.Ranges.{up_to_le, laid_length, laid_users, part_length}
+use Rattle.std.specs.Prelude.{None}
+use Rattle.point_day.specs.Day.{metered}
 
 -- ---- a number that is read and written again is itself
 
@@ -49,11 +50,11 @@ measured_again (pos (suc (suc n))) e d h = absurd (omega (arith, leb-true (suc (
 measured_again (negsuc n) e d h = true≢false (sym h)
 
 -- measured or not
-emission_again : (b : Bool) (l : ℕ) (x : ℤ) (d : ℕ) → up_to l x ≡ true → emission_number (pick b Unmeasured (Measured (nat_abs x) d)) x ≡ x
+emission_again : (b : Bool) (l : ℕ) (x : ℤ) (d : ℕ) → up_to l x ≡ true → emission_number (pick b None (metered (nat_abs x) d)) x ≡ x
 emission_again true l x d h = refl
 emission_again false l x d h = size_again l x h
 
-downstream_again : (b : Bool) (l : ℕ) (x : ℤ) (e : ℕ) → up_to l x ≡ true → downstream_number (pick b Unmeasured (Measured e (nat_abs x))) x ≡ x
+downstream_again : (b : Bool) (l : ℕ) (x : ℤ) (e : ℕ) → up_to l x ≡ true → downstream_number (pick b None (metered e (nat_abs x))) x ≡ x
 downstream_again true l x e h = refl
 downstream_again false l x e h = size_again l x h
 

@@ -20,9 +20,9 @@ use Rattle.point_day.specs.declared.PointDay.{PointDay}
 use Rattle.point_day.specs.declared.Stage.{Stage}
 use Rattle.point_day.specs.declared.Stage.TheVariants.{Provisional, FinalProvisional, FinalDefinitive}
 use Rattle.point_day.specs.declared.Measurement.{Measurement}
-use Rattle.point_day.specs.declared.Measurement.TheVariants.{Unmeasured, Measured}
 use Rattle.plain_day.specs.Layout.{LENGTH, EMISSION_AT, DOWNSTREAM_AT, up_to, emissions_readable, head_readable, is_readable, stage_of, measurement_of, day_in, stage_number, emission_number, downstream_number, stored, numbers_of}
 use Rattle.plain_day.specs.Plain.{given, plain_call}
+use Rattle.std.specs.Prelude.{Option, None, Some}
 
 -- ---- five lists one after the other
 
@@ -75,9 +75,9 @@ flag_back true = refl
 flag_back false = refl
 
 -- whatever stands there of an unmeasured one
-measurement_back : (m : Measurement) (x y : ℤ) → measurement_of (bit (is_measured m)) (nat_abs (emission_number m x)) (nat_abs (downstream_number m y)) ≡ m
-measurement_back Unmeasured x y = refl
-measurement_back (Measured e w) x y = refl
+measurement_back : (m : Option Measurement) (x y : ℤ) → measurement_of (bit (is_measured m)) (nat_abs (emission_number m x)) (nat_abs (downstream_number m y)) ≡ m
+measurement_back None x y = refl
+measurement_back (Some m) x y = refl
 
 users_back : (us : List ℕ) → map nat_abs (map pos us) ≡ us
 users_back [] = refl
@@ -97,10 +97,10 @@ flag_up true = refl
 flag_up false = refl
 
 -- over emissions in range
-emissions_up : (m : Measurement) (x y : ℤ) → measurement_right m ≡ true → emissions_readable x y ≡ true → emissions_readable (emission_number m x) (downstream_number m y) ≡ true
+emissions_up : (m : Option Measurement) (x y : ℤ) → measurement_right m ≡ true → emissions_readable x y ≡ true → emissions_readable (emission_number m x) (downstream_number m y) ≡ true
 unfolding emissions_readable up_to
-emissions_up Unmeasured x y h k = k
-emissions_up (Measured e w) x y h k = h
+emissions_up None x y h k = k
+emissions_up (Some m) x y h k = h
 
 count_up : (n : ℕ) → n ≤ USERS → up_to USERS (pos n) ≡ true
 unfolding up_to
@@ -179,15 +179,15 @@ module _ (d : PointDay) (s : Stores d) where
 
 -- ---- stored in the place of the numbers of another
 
-emission_over : (m m' : Measurement) (x : ℤ) → (is_measured m ≡ true → is_measured m' ≡ true) → emission_number m' (emission_number m x) ≡ emission_number m' x
-emission_over Unmeasured m' x h = refl
-emission_over (Measured e w) Unmeasured x h = true≢false (sym (h refl))
-emission_over (Measured e w) (Measured e' w') x h = refl
+emission_over : (m m' : Option Measurement) (x : ℤ) → (is_measured m ≡ true → is_measured m' ≡ true) → emission_number m' (emission_number m x) ≡ emission_number m' x
+emission_over None m' x h = refl
+emission_over (Some m) None x h = true≢false (sym (h refl))
+emission_over (Some m) (Some m') x h = refl
 
-downstream_over : (m m' : Measurement) (x : ℤ) → (is_measured m ≡ true → is_measured m' ≡ true) → downstream_number m' (downstream_number m x) ≡ downstream_number m' x
-downstream_over Unmeasured m' x h = refl
-downstream_over (Measured e w) Unmeasured x h = true≢false (sym (h refl))
-downstream_over (Measured e w) (Measured e' w') x h = refl
+downstream_over : (m m' : Option Measurement) (x : ℤ) → (is_measured m ≡ true → is_measured m' ≡ true) → downstream_number m' (downstream_number m x) ≡ downstream_number m' x
+downstream_over None m' x h = refl
+downstream_over (Some m) None x h = true≢false (sym (h refl))
+downstream_over (Some m) (Some m') x h = refl
 
 -- after a call that keeps the measurement or sets it
 pub stored_twice : (d d' : PointDay) (xs : List ℤ) → (is_measured d.measurement ≡ true → is_measured d'.measurement ≡ true) → stored d' (stored d xs) ≡ stored d' xs

@@ -16,9 +16,9 @@ use Rattle.point_day.specs.Day.{is_measured}
 use Rattle.point_day.specs.Struct.{Sized}
 use Rattle.point_day.specs.declared.PointDay.{PointDay}
 use Rattle.point_day.specs.declared.Stage.{Stage}
-use Rattle.point_day.specs.declared.Measurement.TheVariants.{Measured}
 use Rattle.point_day.proofs.Padding.{map_set}
 use Rattle.plain_day.specs.Layout.{LENGTH, STAGE_AT, ALLOTTED_AT, MEASURED_AT, EMISSION_AT, DOWNSTREAM_AT, COUNT_AT, USERS_AT, CONSUMPTION_AT, LOSSES_AT, BALANCE_AT, REVISION_AT, put, stage_number, emission_number, downstream_number, stored}
+use Rattle.point_day.specs.Day.{metered}
 
 -- ---- a store into a part of a list
 
@@ -145,7 +145,7 @@ module _ (d : PointDay) (xs : List ℤ) where
   unfolding stored
   allotted_stored b = refl
 
-  pub measurement_stored : (e w : ℕ) → set (set (set (stored d xs) MEASURED_AT (pos 1)) EMISSION_AT (pos e)) DOWNSTREAM_AT (pos w) ≡ stored (set_measurement (Measured e w) d) xs
+  pub measurement_stored : (e w : ℕ) → set (set (set (stored d xs) MEASURED_AT (pos 1)) EMISSION_AT (pos e)) DOWNSTREAM_AT (pos w) ≡ stored (set_measurement (metered e w) d) xs
   unfolding stored
   measurement_stored e w = refl
 

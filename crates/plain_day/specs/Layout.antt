@@ -11,7 +11,8 @@ use Rattle.point_day.specs.declared.PointDay.{PointDay}
 use Rattle.point_day.specs.declared.Stage.{Stage}
 use Rattle.point_day.specs.declared.Stage.TheVariants.{Provisional, FinalProvisional, FinalDefinitive}
 use Rattle.point_day.specs.declared.Measurement.{Measurement}
-use Rattle.point_day.specs.declared.Measurement.TheVariants.{Unmeasured, Measured}
+use Rattle.std.specs.Prelude.{Option, None, Some}
+use Rattle.point_day.specs.Day.{metered}
 
 -- where each number stands, where the arrays start, and how many numbers there are
 abbrev pub STAGE_AT : ℕ
@@ -87,8 +88,8 @@ abbrev pub stage_of : ℕ → Stage
 stage_of n = pick (eqb n 0) Provisional (pick (eqb n 1) FinalProvisional FinalDefinitive)
 
 -- both emissions are passed over if not measured
-abbrev pub measurement_of : ℕ → ℕ → ℕ → Measurement
-measurement_of measured emission downstream = pick (eqb measured 0) Unmeasured (Measured emission downstream)
+abbrev pub measurement_of : ℕ → ℕ → ℕ → Option Measurement
+measurement_of measured emission downstream = pick (eqb measured 0) None (metered emission downstream)
 
 abbrev pub stage_in : List ℤ → Stage
 stage_in xs = stage_of (nat_abs (atZ xs STAGE_AT))
@@ -96,7 +97,7 @@ stage_in xs = stage_of (nat_abs (atZ xs STAGE_AT))
 abbrev pub allotted_in : List ℤ → Bool
 allotted_in xs = eqb (nat_abs (atZ xs ALLOTTED_AT)) 1
 
-abbrev pub measurement_in : List ℤ → Measurement
+abbrev pub measurement_in : List ℤ → Option Measurement
 measurement_in xs = measurement_of (nat_abs (atZ xs MEASURED_AT)) (nat_abs (atZ xs EMISSION_AT)) (nat_abs (atZ xs DOWNSTREAM_AT))
 
 abbrev pub count_in : List ℤ → ℕ
@@ -118,13 +119,13 @@ stage_number FinalProvisional = 1
 stage_number FinalDefinitive = 2
 
 -- an unmeasured point-day leaves a number as it was
-abbrev pub emission_number : Measurement → ℤ → ℤ
-emission_number Unmeasured z = z
-emission_number (Measured e d) z = pos e
+abbrev pub emission_number : Option Measurement → ℤ → ℤ
+emission_number None z = z
+emission_number (Some m) z = pos m.emission
 
-abbrev pub downstream_number : Measurement → ℤ → ℤ
-downstream_number Unmeasured z = z
-downstream_number (Measured e d) z = pos d
+abbrev pub downstream_number : Option Measurement → ℤ → ℤ
+downstream_number None z = z
+downstream_number (Some m) z = pos m.downstream
 
 -- a point-day stored in the place of the numbers xs
 unfoldable pub stored : PointDay → List ℤ → List ℤ

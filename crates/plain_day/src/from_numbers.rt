@@ -35,12 +35,15 @@ pub fn stage_of(number: u64) -> Stage
     }
 }
 
-pub fn measurement_of(measured: u64, emission: u64, downstream: u64) -> Measurement
+pub fn measurement_of(measured: u64, emission: u64, downstream: u64) -> Option<Measurement>
     ensures { result ≡ measurement_of measured emission downstream }
 {
     match measured {
-        0 => Measurement::Unmeasured,
-        _ => Measurement::Measured(emission, downstream),
+        0 => None,
+        _ => Some(Measurement {
+            emission,
+            downstream,
+        }),
     }
 }
 
@@ -66,7 +69,7 @@ pub fn allotted_in(xs: &[i64]) -> bool
     size_at(xs, ALLOTTED_AT) == 1
 }
 
-pub fn measurement_in(xs: &[i64]) -> Measurement
+pub fn measurement_in(xs: &[i64]) -> Option<Measurement>
     requires { length xs.now ≡ LENGTH }
     ensures { result ≡ measurement_in xs.now }
 {

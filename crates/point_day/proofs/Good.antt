@@ -21,6 +21,7 @@ use Rattle.point_day.proofs.Arrays.{Full, read_laid, past_laid, consumption_laid
 use Rattle.point_day.proofs.Each.{all_parts}
 use Rattle.point_day.proofs.Sound.{Bare, Sound, bare_whole, bare_all}
 use Rattle.point_day.proofs.Wholes.{Small, small_right}
+use Rattle.std.specs.Prelude.{Option}
 
 -- of a user, in every stage. A user's balance is at most 1,000,000,000 in size over all kinds: so the revision that brings its whole
 -- amount into 0 to 1,000,000,000 stays below 2,000,000,000.
@@ -34,13 +35,13 @@ abbrev pub Revised : User → Type 0
 Revised u = nat_abs u.revision ≤ AMOUNT
 
 -- of a day that stands allotted, with the settled net
-pub record Settled (us : List User) (m : Measurement) (settled : ℤ) : Type 0 where
+pub record Settled (us : List User) (m : Option Measurement) (settled : ℤ) : Type 0 where
   pub some_user : some us ≡ true
   pub measured : is_measured m ≡ true
   pub adds_up : all_whole us ≡ settled
   pub range : sum_right settled ≡ true
 
-abbrev pub Standing : Bool → List User → Measurement → ℤ → Type 0
+abbrev pub Standing : Bool → List User → Option Measurement → ℤ → Type 0
 Standing true us m settled = Settled us m settled
 Standing false us m settled = All Bare us
 

@@ -20,17 +20,17 @@ use Rattle.point_day.specs.Day.{User, Day, numbers, offtake, all_offtake, whole,
 use Rattle.point_day.specs.Calls.{accept, verdict, by_basis, none_in_2_to_5, or_kind_1, kinds, day_balance, user_shares, with_share, balanced, allot, revised, Pair, users_of, amounts_of, row_right, nearest_filled, opened, stand_in, assigned, assign}
 use Rattle.point_day.specs.Struct.{sum_right}
 use Rattle.point_day.specs.declared.Measurement.{Measurement}
-use Rattle.point_day.specs.declared.Measurement.TheVariants.{Unmeasured, Measured}
 use Rattle.point_day.proofs.Each.{anything, all_parts, some_length, length_some}
 use Rattle.point_day.proofs.Sound.{Bare, net_pos, net_small}
 use Rattle.point_day.proofs.Wholes.{NoneNegative, shares_size, length_weights, kinds_sum, kinds_size, shares_long, allot_sizes, balance_size, allot_sum, allot_small, newcomer, newcomers_bare, newcomers_none, opened_long, opened_sum, opened_wholes, small_sum, none_negative, assigned_long, revise_sum, revise_wholes, revise_small}
 use Rattle.point_day.proofs.Good.{Formed, Revised, Standing, Good, allotted, good_sound, accepted}
 use Rattle.point_day.proofs.Steps.{empty_formed}
+use Rattle.std.specs.Prelude.{Option, None, Some}
 
-pub net_range : (m : Measurement) → measurement_right m ≡ true → sum_right (net_of m) ≡ true
-net_range Unmeasured h = refl
-net_range (Measured emission downstream) h =
-    le-leb (emission - downstream) LIMIT (omega (arith, leb-true emission LIMIT (both_fst (leb emission LIMIT) (leb downstream emission) h)))
+pub net_range : (m : Option Measurement) → measurement_right m ≡ true → sum_right (net_of m) ≡ true
+net_range None h = refl
+net_range (Some m) h =
+    le-leb (m.emission - m.downstream) LIMIT (omega (arith, leb-true m.emission LIMIT (both_fst (leb m.emission LIMIT) (leb m.downstream m.emission) h)))
 
 -- ---- allot
 

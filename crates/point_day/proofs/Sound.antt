@@ -14,11 +14,11 @@ use Rattle.point_day.specs.Limits.{LIMIT}
 use Rattle.point_day.specs.Day.{User, Day, numbers, offtake, all_offtake, whole, all_whole, net_of, is_zero, measurement_right}
 use Rattle.point_day.specs.Struct.{Sized, read, unallotted}
 use Rattle.point_day.specs.declared.Measurement.{Measurement}
-use Rattle.point_day.specs.declared.Measurement.TheVariants.{Unmeasured, Measured}
 use Rattle.point_day.specs.declared.PointDay.{PointDay}
 use Rattle.point_day.proofs.Taken.{Taken}
 use Rattle.point_day.proofs.Arrays.{Full}
 use Rattle.point_day.proofs.Back.{read_full}
+use Rattle.std.specs.Prelude.{Option, None, Some}
 
 -- a user while entering
 pub record Bare (u : User) : Type 0 where
@@ -55,14 +55,14 @@ bare_all (u ∷ us) h = ap₂ ◌+ℤ◌ (bare_whole u h.0) (bare_all us h.1)
 -- ---- net
 
 -- "0 to 1,000,000,000"
-pub net_pos : (m : Measurement) → net_of m ≡ pos (nat_abs (net_of m))
-net_pos Unmeasured = refl
-net_pos (Measured emission downstream) = refl
+pub net_pos : (m : Option Measurement) → net_of m ≡ pos (nat_abs (net_of m))
+net_pos None = refl
+net_pos (Some m) = refl
 
-pub net_small : (m : Measurement) → measurement_right m ≡ true → nat_abs (net_of m) ≤ LIMIT
-net_small Unmeasured h = omega arith
-net_small (Measured emission downstream) h =
-    omega (arith, leb-true emission LIMIT (both_fst (leb emission LIMIT) (leb downstream emission) h))
+pub net_small : (m : Option Measurement) → measurement_right m ≡ true → nat_abs (net_of m) ≤ LIMIT
+net_small None h = omega arith
+net_small (Some m) h =
+    omega (arith, leb-true m.emission LIMIT (both_fst (leb m.emission LIMIT) (leb m.downstream m.emission) h))
 
 -- ---- a taken point-day
 

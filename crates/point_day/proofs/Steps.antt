@@ -15,10 +15,10 @@ use Rattle.numbers.proofs.Lists.{All, both_fst, both_snd, either_fst, either_snd
 use Rattle.point_day.specs.Limits.{LAST_NUMBER, KINDS, LIMIT, COEFFICIENT}
 use Rattle.point_day.specs.Day.{User, Day, empty_user, numbers, offtake, all_offtake, is_number, emission_right}
 use Rattle.point_day.specs.Calls.{accept, verdict, join, cell_step, user_line, for_user, line_right, line, measure, cleared, start_final}
-use Rattle.point_day.specs.declared.Measurement.TheVariants.{Measured}
 use Rattle.point_day.proofs.Arrays.{Full}
 use Rattle.point_day.proofs.Sound.{Bare}
 use Rattle.point_day.proofs.Good.{Formed, Standing, Good, entering, bare_good, accepted}
+use Rattle.point_day.specs.Day.{metered}
 
 -- ---- an empty user
 
@@ -156,7 +156,7 @@ measure_good e w d s g v =
       standing = go d.allotted g.standing;
     }
   where
-    go : (b : Bool) → Standing b d.users d.measurement s → Standing b d.users (Measured e w) s
+    go : (b : Bool) → Standing b d.users d.measurement s → Standing b d.users (metered e w) s
     go true h = record { some_user = h.some_user; measured = refl; adds_up = h.adds_up; range = h.range }
     go false h = h
 

@@ -11,9 +11,9 @@ unfoldable pub use Rattle.numbers.specs.Refusals.{verdict}
 use Rattle.proration.specs.Proration.{prorateZ}
 use Rattle.point_day.specs.Limits.{USERS, KINDS, LIMIT, AMOUNT, COEFFICIENT, PARTS, ROWS}
 use Rattle.point_day.specs.Day.{User, Day, with_stage, with_allotted, with_measurement, with_consumption, with_losses, with_balance, with_revision, empty_user, numbers, all_offtake, whole, all_whole, net, is_measured, some, no_more, is_number, emission_right, too_large, provisional, last_stage, next}
-use Rattle.point_day.specs.declared.Measurement.TheVariants.{Measured}
 pub use Rattle.point_day.specs.Day.{Pair, with_users}
 pub use Rattle.point_day.specs.Answers.{Answer, refused, done, losses_added, rows_looked_at, within_tolerance, revision_assigned}
+use Rattle.point_day.specs.Day.{metered}
 
 -- ---- a call
 
@@ -109,7 +109,7 @@ measure emission downstream d = record {
       ∷ (2 when not (emission_right emission downstream))
       ∷ [];
   answer = done;
-  after = with_measurement (Measured emission downstream) d;
+  after = with_measurement (metered emission downstream) d;
 }
 
 -- ---- Allot (entering): balance = net − consumption − losses, over all users

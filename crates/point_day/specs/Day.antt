@@ -6,7 +6,7 @@ use Rattle.point_day.specs.Limits.{LIMIT, AMOUNT, KINDS, LAST_NUMBER}
 use Rattle.point_day.specs.declared.Stage.{Stage}
 use Rattle.point_day.specs.declared.Stage.TheVariants.{Provisional, FinalProvisional, FinalDefinitive}
 use Rattle.point_day.specs.declared.Measurement.{Measurement}
-use Rattle.point_day.specs.declared.Measurement.TheVariants.{Unmeasured, Measured}
+use Rattle.std.specs.Prelude.{Option, None, Some}
 
 -- "For each user and each of five kinds it holds consumption, losses and balance, .. and for each user a revision"
 pub record User : Type 0 where
@@ -20,12 +20,12 @@ pub record User : Type 0 where
 pub record Day : Type 0 where
   pub stage : Stage
   pub allotted : Bool
-  pub measurement : Measurement
+  pub measurement : Option Measurement
   pub users : List User
 
 -- "Fresh is provisional, entering, empty, unmeasured"
 unfoldable pub fresh : Day
-fresh = record { stage = Provisional; allotted = false; measurement = Unmeasured; users = [] }
+fresh = record { stage = Provisional; allotted = false; measurement = None; users = [] }
 
 -- a pair of a stand-in's row
 pub record Pair : Type 0 where
@@ -40,7 +40,7 @@ with_stage x d = record { stage = x; allotted = d.allotted; measurement = d.meas
 abbrev pub with_allotted : Bool → Day → Day
 with_allotted x d = record { stage = d.stage; allotted = x; measurement = d.measurement; users = d.users }
 
-abbrev pub with_measurement : Measurement → Day → Day
+abbrev pub with_measurement : Option Measurement → Day → Day
 with_measurement x d = record { stage = d.stage; allotted = d.allotted; measurement = x; users = d.users }
 
 abbrev pub with_users : List User → Day → Day
@@ -84,17 +84,21 @@ whole u = pos (offtake u) +ℤ (totalZ u.balance +ℤ u.revision)
 abbrev pub all_whole : List User → ℤ
 all_whole us = totalZ (map whole us)
 
+-- a measurement of so much emission and downstream emission
+abbrev pub metered : ℕ → ℕ → Option Measurement
+metered emission downstream = Some (record { emission = emission; downstream = downstream })
+
 -- "Net is the difference" of emission and downstream emission; 0 if unmeasured, which no call then uses
-abbrev pub net_of : Measurement → ℤ
-net_of Unmeasured = pos 0
-net_of (Measured emission downstream) = pos (emission - downstream)
+abbrev pub net_of : Option Measurement → ℤ
+net_of None = pos 0
+net_of (Some m) = pos (m.emission - m.downstream)
 
 abbrev pub net : Day → ℤ
 net d = net_of d.measurement
 
-abbrev pub is_measured : Measurement → Bool
-is_measured Unmeasured = false
-is_measured (Measured emission downstream) = true
+abbrev pub is_measured : Option Measurement → Bool
+is_measured None = false
+is_measured (Some m) = true
 
 -- some element is there
 abbrev pub some : {A : Type 0} → List A → Bool
@@ -118,9 +122,9 @@ is_number n = both (leb 1 n) (leb n LAST_NUMBER)
 abbrev pub emission_right : ℕ → ℕ → Bool
 emission_right emission downstream = both (leb emission LIMIT) (leb downstream emission)
 
-abbrev pub measurement_right : Measurement → Bool
-measurement_right Unmeasured = true
-measurement_right (Measured emission downstream) = emission_right emission downstream
+abbrev pub measurement_right : Option Measurement → Bool
+measurement_right None = true
+measurement_right (Some m) = emission_right m.emission m.downstream
 
 -- refusal 12: "a whole amount would pass 2,000,000,000 in size"
 abbrev pub too_large : List User → Bool

@@ -4,9 +4,10 @@ use Rattle.std.specs.Prelude.{Bool, List, ◌≡◌, ℕ, ℤ}
 use Rattle.point_day.specs.declared.Stage.{Stage}
 use Rattle.point_day.specs.declared.Measurement.{Measurement}
 use Rattle.point_day.specs.declared.PointDay.{PointDay}
+use Rattle.std.specs.Prelude.{Option}
 
 -- a point-day of its fields
-abbrev pub point_day : Stage → Bool → Measurement → ℕ → List ℕ → List ℤ → List ℤ → List ℤ → List ℤ → PointDay
+abbrev pub point_day : Stage → Bool → Option Measurement → ℕ → List ℕ → List ℤ → List ℤ → List ℤ → List ℤ → PointDay
 point_day stage allotted m n us cs ls bs rs = record {
   stage = stage;
   allotted = allotted;
@@ -27,7 +28,7 @@ abbrev pub set_allotted : Bool → PointDay → PointDay
 set_allotted x d =
     point_day d.stage x d.measurement d.count d.users d.consumption d.losses d.balance d.revision
 
-abbrev pub set_measurement : Measurement → PointDay → PointDay
+abbrev pub set_measurement : Option Measurement → PointDay → PointDay
 set_measurement x d =
     point_day d.stage d.allotted x d.count d.users d.consumption d.losses d.balance d.revision
 

@@ -40,10 +40,10 @@ pub enum Stage {
 }
 
 // Emission and downstream emission.
-#[derive(Clone, Copy)]
-pub enum Measurement {
-    Unmeasured,
-    Measured(u64, u64),
+#[derive(Clone, Copy, Debug, PartialEq, Eq)]
+pub struct Measurement {
+    pub emission: u64,
+    pub downstream: u64,
 }
 
 // One point on one gas day. The users stand in the order in which they joined; kind k of slot s is cell KINDS s + k - 1.
@@ -51,7 +51,7 @@ pub enum Measurement {
 pub struct PointDay {
     pub stage: Stage,
     pub allotted: bool,
-    pub measurement: Measurement,
+    pub measurement: Option<Measurement>,
     pub count: usize,
     pub users: [u16; USERS],
     pub consumption: [i64; CELLS],
@@ -135,7 +135,7 @@ pub fn fresh_day() -> PointDay
     PointDay {
         stage: Stage::Provisional,
         allotted: false,
-        measurement: Measurement::Unmeasured,
+        measurement: None,
         count: 0,
         users: [0; USERS],
         consumption: [0; CELLS],

@@ -25,35 +25,38 @@ pub fn put_line(out: &mut [u8], i: usize, word: &[u8], numbers: &[i64]) -> usize
 }
 
 // A slot's amounts over all kinds.
-fn of_slot(xs: &[i64], slot: usize) -> i64
-    requires { (slot < USERS) × (length xs.now ≡ CELLS) × Small xs.now }
+fn of_slot(xs: &[i64; CELLS], slot: usize) -> i64
+    requires { (slot < USERS) × Small xs.now }
     ensures { result ≡ of_slot xs.now slot }
 {
     let start = KINDS * slot;
     numbers::sum_of(&xs[start..start + KINDS])
 }
 
-// The line of the user of a slot, whose balance over all kinds is its share.
-pub fn put_user<'a>(
-    out: &mut [u8],
-    i: usize,
-    users: &'a [u16; USERS],
-    consumption: &'a [i64; CELLS],
-    losses: &'a [i64; CELLS],
-    shares: &'a [i64; USERS],
-    slot: usize,
-) -> usize
-    requires { (slot < USERS) × (i + LONGEST_LINE ≤ length out.old) × Small consumption.now × Small losses.now × Small shares.now }
-    ensures value { (result ≡ i + length (slot_line users.now consumption.now losses.now shares.now slot)) × (result ≤ i + LONGEST_LINE) }
-    ensures out_after { out.new ≡ written out.old i (slot_line users.now consumption.now losses.now shares.now slot) }
-{
-    let c = of_slot(consumption, slot);
-    let l = of_slot(losses, slot);
-    let share = shares[slot];
-    put_line(
-        out,
-        i,
-        b"user",
-        &[i64::from(users[slot]), c, l, share, c + l + share],
-    )
+// What a report tells of a point-day's users, by slots: how many there are, their numbers, what lines left of each kind, and their shares of
+// the balance.
+#[derive(Clone, Copy)]
+pub struct Slots<'a> {
+    pub count: usize,
+    pub users: &'a [u16; USERS],
+    pub consumption: &'a [i64; CELLS],
+    pub losses: &'a [i64; CELLS],
+    pub shares: &'a [i64; USERS],
+    pub ghost few: { count ≤ USERS },
+    pub ghost small: { Small consumption.now × Small losses.now × Small shares.now },
+}
+
+impl Slots<'_> {
+    // The line of the user of a slot, whose balance over all kinds is its share.
+    pub fn put_user(&self, out: &mut [u8], i: usize, slot: usize) -> usize
+        requires { (slot < USERS) × (i + LONGEST_LINE ≤ length out.old) }
+        ensures value { (result ≡ i + length (slot_line self.now.users.now self.now.consumption.now self.now.losses.now self.now.shares.now slot)) × (result ≤ i + LONGEST_LINE) }
+        ensures out_after { out.new ≡ written out.old i (slot_line self.now.users.now self.now.consumption.now self.now.losses.now self.now.shares.now slot) }
+    {
+        let c = of_slot(self.consumption, slot);
+        let l = of_slot(self.losses, slot);
+        let share = self.shares[slot];
+        let number = i64::from(self.users[slot]);
+        put_line(out, i, b"user", &[number, c, l, share, c + l + share])
+    }
 }

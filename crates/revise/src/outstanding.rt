@@ -10,7 +10,7 @@ ghost use Rattle.columns.specs.Summable.{SUMMABLE};
 use point_day::Measurement;
 
 // R: net less everything allotted.
-pub fn outstanding(measurement: Measurement, allotted: i64) -> i64
+pub fn outstanding(measurement: Option<Measurement>, allotted: i64) -> i64
     requires { (measurement_right measurement ≡ true) × (sum_right allotted ≡ true) }
     ensures { (result ≡ net_of measurement -ℤ allotted) × Within LIMIT result }
 {

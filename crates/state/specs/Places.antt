@@ -1,5 +1,5 @@
 -- What the calls look at, place by place. Assumes nothing. No exported contract leans on it.
-use Rattle.std.specs.Prelude.{true, false, List, ◌≡◌, ℕ, ◌+◌, ◌*◌, ◌≤◌, ◌<◌, ℤ, pos, nat_abs, ◌+ℤ◌, length, take, get_or, set}
+use Rattle.std.specs.Prelude.{Option, None, Some, true, false, List, ◌≡◌, ℕ, ◌+◌, ◌*◌, ◌≤◌, ◌<◌, ℤ, pos, nat_abs, ◌+ℤ◌, length, get_or, set}
 use Rattle.numbers.specs.Sums.{sumZ, atZ}
 use Rattle.numbers.specs.Lists.{has}
 use Rattle.numbers.specs.Amounts.{Within, Between}
@@ -7,11 +7,10 @@ use Rattle.point_day.specs.Limits.{KINDS, USERS, CELLS, AMOUNT}
 use Rattle.point_day.specs.Struct.{none_below}
 use Rattle.point_day.specs.declared.PointDay.{PointDay}
 
--- r is the slot of user n among the first `count` numbers, or `count`
-pub record Placed (n count : ℕ) (users : List ℕ) (r : ℕ) : Type 0 where
-  pub within : r ≤ count
-  pub there : r < count → get_or users r 0 ≡ n
-  pub missing : r ≡ count → has n (take count users) ≡ false
+-- the slot of user n, if it stands among these
+abbrev pub SlotOf : ℕ → List ℕ → Option ℕ → Type 0
+SlotOf n users None = has n users ≡ false
+SlotOf n users (Some s) = (s < length users) × (get_or users s 0 ≡ n)
 
 -- every amount from place n on lies in low .. high
 abbrev pub From : ℕ → ℤ → ℤ → List ℤ → Type 0

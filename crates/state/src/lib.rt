@@ -6,21 +6,20 @@ ghost use Rattle.numbers.specs.Sums.{table, atZ};
 ghost use Rattle.numbers.specs.Amounts.{Within, Decides};
 ghost use Rattle.point_day.specs.Limits.{USERS, CELLS, LIMIT};
 ghost use Rattle.point_day.specs.Day.{is_measured, net_of, emission_right, measurement_right, provisional};
-ghost use Rattle.state.specs.Places.{Placed, ROOM, Small, Lengths, LowSlot, SizedSlot, cellZ, offtake_at, balance_at, whole_at, more};
+ghost use Rattle.state.specs.Places.{SlotOf, ROOM, Small, Lengths, LowSlot, SizedSlot, cellZ, offtake_at, balance_at, whole_at, more};
 
 use point_day::{AMOUNT, KINDS, LIMIT, Measurement, Stage, USERS};
 
-// The slot of the user, or the count.
-pub fn slot_of(users: &[u16], count: usize, user: u16) -> usize
-    requires { count ≤ length users.now }
-    ensures { Placed user count users.now result }
+// The slot of the user, if it stands among these.
+pub fn slot_of(users: &[u16], user: u16) -> Option<usize>
+    ensures { SlotOf user users.now result }
 {
-    for i in 0..count {
-        if users[i] == user {
-            return i;
+    for (i, &number) in users.iter().enumerate() {
+        if number == user {
+            return Some(i);
         }
     }
-    count
+    None
 }
 
 // The greatest amount of which all sums fit well into 64 bits, and whose bits are all ones.
@@ -143,10 +142,10 @@ pub fn emission_right(emission: u64, downstream: u64) -> bool
 }
 
 // Whether there is a measurement.
-pub fn is_measured(measurement: Measurement) -> bool
+pub fn is_measured(measurement: Option<Measurement>) -> bool
     ensures { result ≡ is_measured measurement }
 {
-    matches!(measurement, Measurement::Measured(_, _))
+    measurement.is_some()
 }
 
 // Whether the stage is provisional.
@@ -157,12 +156,12 @@ pub fn is_provisional(stage: Stage) -> bool
 }
 
 // Net emission; 0 if unmeasured.
-pub fn net(measurement: Measurement) -> u64
+pub fn net(measurement: Option<Measurement>) -> u64
     requires { measurement_right measurement ≡ true }
     ensures { (pos result ≡ net_of measurement) × (result ≤ LIMIT) }
 {
     match measurement {
-        Measurement::Unmeasured => 0,
-        Measurement::Measured(emission, downstream) => emission - downstream,
+        None => 0,
+        Some(measured) => measured.emission - measured.downstream,
     }
 }

@@ -34,6 +34,7 @@ use Rattle.point_day.specs.Fields.{point_day}
 use Rattle.taken.specs.Tested.{Known, Wholes, any_large}
 use Rattle.taken.specs.declared.State.{State}
 use Rattle.point_day.specs.declared.Stage.{Stage}
+use Rattle.std.specs.Prelude.{Option}
 
 -- every amount in low .. high, and 0 from place n on
 pub record Cells (low high : ℤ) (n : ℕ) (xs : List ℤ) : Type 0 where
@@ -212,7 +213,7 @@ pub facts : (d : PointDay) → Sized d → taken d ≡ true → Facts d
 facts d z e = facts_of d z (taken_facts d e)
 
 -- the lengths of the point-day are those of the point-day
-pub parts_sized : (stage : Stage) {allotted : Bool} {m : Measurement} {n : ℕ} {us : List ℕ} {cs ls bs rs : List ℤ} → length us ≡ USERS → Lengths cs ls bs rs → Sized (point_day stage allotted m n us cs ls bs rs)
+pub parts_sized : (stage : Stage) {allotted : Bool} {m : Option Measurement} {n : ℕ} {us : List ℕ} {cs ls bs rs : List ℤ} → length us ≡ USERS → Lengths cs ls bs rs → Sized (point_day stage allotted m n us cs ls bs rs)
 parts_sized stage u l = record { users = u; consumption = l.consumption; losses = l.losses; balance = l.balance; revision = l.revision }
 
 pub untaken : (d : PointDay) → (taken d ≡ true → ⊥) → false ≡ taken d

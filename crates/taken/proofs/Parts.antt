@@ -33,6 +33,7 @@ use Rattle.state.proofs.Totals.{kinds_long, whole_is, wholes_are, whole_parts, o
 use Rattle.std.specs.Prelude.{Option, None, Some}
 use Rattle.taken.specs.Tested.{TestedParts, Found, Head, Offtakes, Wholes, Balances, Entering, Allotted, added_at}
 use Rattle.taken.proofs.Facts.{wholes_of, Facts, all_users, some_users, numbers_are, bare, facts, untaken, taken_summable}
+use Rattle.std.specs.Prelude.{Option}
 
 -- ---- balances and revisions
 
@@ -137,7 +138,7 @@ module _ (d : PointDay) (z : Sized d) where
 nothing_past : (n : ℕ) (xs : List ℤ) → From n (pos 0) (pos 0) xs → none_past n xs ≡ true
 nothing_past n xs h = from_every is_zero (pos 0) n xs (λ i l m. between_zero (atZ xs i) (h i l m))
 
-no_user_past : {m : Measurement} {n : ℕ} {us : List ℕ} → Head m n us → every (λ k. eqb k 0) (drop n us) ≡ true
+no_user_past : {m : Option Measurement} {n : ℕ} {us : List ℕ} → Head m n us → every (λ k. eqb k 0) (drop n us) ≡ true
 no_user_past {n = n} {us = us} h = from_every (λ k. eqb k 0) 0 n us (λ i l m. eq-eqb (get_or us i 0) 0 (h.past i l m))
 
 -- ---- point-days once allotted

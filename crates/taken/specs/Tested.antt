@@ -56,7 +56,7 @@ TestedParts d before None after = taken d ≡ false
 TestedParts d before (Just z) after = (taken d ≡ true) × (z ≡ all_whole (read d).users) × (after ≡ table (whole_at d.consumption d.losses d.balance d.revision) d.count ++ drop d.count before)
 
 -- number of users, user numbers and measurement
-pub record Head (m : Measurement) (n : ℕ) (us : List ℕ) : Type 0 where
+pub record Head (m : Option Measurement) (n : ℕ) (us : List ℕ) : Type 0 where
   pub few : n ≤ USERS
   pub past : (i : ℕ) → n ≤ i → i < length us → get_or us i 0 ≡ 0
   pub named : has 0 (take n us) ≡ false
@@ -98,7 +98,7 @@ pub record Ended (n : ℕ) (cs ls bs rs : List ℤ) : Type 0 where
   pub revision : From n (pos 0) (pos 0) rs
 
 -- once allotted: with user and measurement
-pub record Allotted (m : Measurement) (n : ℕ) (cs ls bs rs : List ℤ) : Type 0 where
+pub record Allotted (m : Option Measurement) (n : ℕ) (cs ls bs rs : List ℤ) : Type 0 where
   pub users : n ≡ 0 → ⊥
   pub measured : is_measured m ≡ true
   pub past : Ended n cs ls bs rs

@@ -24,17 +24,17 @@ const LEAST: i64 = 0 - (AMOUNT as i64);
 const GREATEST: i64 = AMOUNT as i64;
 
 // Whether the measurement is in range.
-fn measurement_right(measurement: Measurement) -> bool
+fn measurement_right(measurement: Option<Measurement>) -> bool
     ensures { result ≡ measurement_right measurement }
 {
     match measurement {
-        Measurement::Unmeasured => true,
-        Measurement::Measured(emission, downstream) => state::emission_right(emission, downstream),
+        None => true,
+        Some(measured) => state::emission_right(measured.emission, measured.downstream),
     }
 }
 
 // Whether the number of users, the user numbers and the measurement are right.
-fn head_right(measurement: Measurement, n: usize, users: &[u16]) -> bool
+fn head_right(measurement: Option<Measurement>, n: usize, users: &[u16]) -> bool
     requires { length users.now ≡ USERS }
     ensures { Decides result (Head measurement n users.now) }
 {
@@ -174,7 +174,7 @@ fn none_past(
 
 // The amounts of n users once allotted: whole amounts are consumption and losses, and then balances and revision.
 fn allotted_test(
-    measurement: Measurement,
+    measurement: Option<Measurement>,
     n: usize,
     consumption: &[i64],
     losses: &[i64],
@@ -201,7 +201,7 @@ fn allotted_test(
 // The tests of a point-day in parts.
 fn parts_test(
     allotted: bool,
-    measurement: Measurement,
+    measurement: Option<Measurement>,
     n: usize,
     users: &[u16],
     consumption: &[i64],
@@ -235,7 +235,7 @@ fn parts_test(
 pub struct State {
     pub stage: Stage,
     pub allotted: bool,
-    pub measurement: Measurement,
+    pub measurement: Option<Measurement>,
     pub count: usize,
     pub users: [u16; USERS],
     pub wholes: [i64; USERS],
@@ -246,7 +246,7 @@ pub struct State {
 pub fn test_state(
     stage: Stage,
     allotted: bool,
-    measurement: Measurement,
+    measurement: Option<Measurement>,
     count: usize,
     users: [u16; USERS],
     consumption: &[i64],

@@ -10,7 +10,7 @@ fn stands_before(marked: bool, users: &[u16], n: usize, user: u16) -> bool
     requires { n ≤ length users.now }
     ensures { result ≡ both marked (has user (take n users.now)) }
 {
-    marked && state::slot_of(users, n, user) < n
+    marked && state::slot_of(&users[..n], user).is_some()
 }
 
 // Whether no user number is 0 and none stands twice.

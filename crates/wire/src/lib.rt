@@ -1,15 +1,13 @@
 // Little-endian numbers, and decimal text in a lent buffer.
 #![tactic(auto)]
 
-ghost use Rattle.std.specs.Prelude.{◌≡◌, ◌+◌, ◌^◌, ◌≤◌, ◌<◌, nat_abs, length};
-ghost use Rattle.wire.specs.Bytes.{little_endian, signed_64};
+ghost use Rattle.std.specs.Prelude.{◌≡◌, ◌+◌, ◌^◌, ◌≤◌, ◌<◌, length};
+ghost use Rattle.wire.specs.Bytes.{little_endian};
 ghost use Rattle.wire.specs.Text.{decimal, written};
 
 use itoa::Buffer;
 
-// Numbers read from bytes, little-endian.
-
-// The number of N bytes from place i on.
+// The number of N bytes from place i on, little-endian.
 pub fn read<const N: usize>(s: &[u8], i: usize) -> u64
     requires { (N ≤ 8) × (i + N ≤ length s.now) }
     ensures { (result ≡ little_endian N s.now i) × (result < 256 ^ N) }
@@ -19,48 +17,6 @@ pub fn read<const N: usize>(s: &[u8], i: usize) -> u64
         n = 256 * n + s[i + k] as u64;
     }
     n
-}
-
-pub fn read_u8(s: &[u8], i: usize) -> u64
-    requires { i < length s.now }
-    ensures { (result ≡ little_endian 1 s.now i) × (result < 256) }
-{
-    read::<1>(s, i)
-}
-
-pub fn read_u16(s: &[u8], i: usize) -> u64
-    requires { i + 2 ≤ length s.now }
-    ensures { (result ≡ little_endian 2 s.now i) × (result < 65536) }
-{
-    read::<2>(s, i)
-}
-
-pub fn read_u32(s: &[u8], i: usize) -> u64
-    requires { i + 4 ≤ length s.now }
-    ensures { (result ≡ little_endian 4 s.now i) × (result < 4294967296) }
-{
-    read::<4>(s, i)
-}
-
-pub fn read_u64(s: &[u8], i: usize) -> u64
-    requires { i + 8 ≤ length s.now }
-    ensures { result ≡ little_endian 8 s.now i }
-{
-    read::<8>(s, i)
-}
-
-// The signed number that 64 bits stand for.
-pub fn to_signed(bits: u64) -> i64
-    ensures { result ≡ signed_64 bits }
-{
-    bits.cast_signed()
-}
-
-// The size of x, of any x.
-pub fn magnitude(x: i64) -> u64
-    ensures { result ≡ nat_abs x }
-{
-    x.unsigned_abs()
 }
 
 // Text put into a buffer from place i on; the answer is the place after it.

@@ -24,7 +24,6 @@ use Rattle.point_day.specs.Calls.{user_shares}
 use Rattle.point_day.specs.Struct.{user_at, read, padded, laid, taken}
 use Rattle.point_day.specs.declared.Stage.TheVariants.{Provisional}
 use Rattle.point_day.specs.declared.Measurement.{Measurement}
-use Rattle.point_day.specs.declared.Measurement.TheVariants.{Measured}
 use Rattle.point_day.specs.declared.PointDay.{PointDay}
 use Rattle.point_day.proofs.Back.{every_drop}
 use Rattle.point_day.proofs.Good.{bare_good, taken_good}
@@ -55,6 +54,8 @@ use Rattle.file_lines.proofs.Steps.{step, sized, sum_small}
 use Rattle.day_report.specs.Entered.{entered_and_allotted}
 use Rattle.day_report.specs.Answered.{text_for, buffer_after, size_of}
 use Rattle.day_report.proofs.allotment.Shares.{after, day_after, shares_day, shares_limited, report_is}
+use Rattle.std.specs.Prelude.{Option}
+use Rattle.point_day.specs.Day.{metered}
 
 -- ---- a report in a buffer
 
@@ -87,7 +88,7 @@ zeros_limited (suc k) = zeros_limited k
 
 module _ {n : ℕ} {us : List ℕ} {cs ls : List ℤ} {x : ℕ} (s : Entered n us cs ls x) (e w : ℕ) (r : emission_right e w ≡ true) where
   abbrev p : PointDay
-  p = entering n us cs ls (Measured e w)
+  p = entering n us cs ls (metered e w)
 
   pub downstream_low : w ≤ e
   downstream_low = leb-true w e (both_snd (leb e LIMIT) (leb w e) r)
@@ -105,18 +106,18 @@ module _ {n : ℕ} {us : List ℕ} {cs ls : List ℤ} {x : ℕ} (s : Entered n u
       (within_sub (within_pos (e - w)) (within_pos x)) (omega (arith, emission_low, sum_small s))
 
   pub in_range : CellsInRange cs ls
-  in_range = unfold entering in cells_in_range p (sized s (Measured e w)) (s.taken (Measured e w) r)
+  in_range = unfold entering in cells_in_range p (sized s (metered e w)) (s.taken (metered e w) r)
 
   pub no_user : n ≡ 0 → (g : ℕ) → refused 8 ≡ in_order g (allot ∷ []) p
   no_user h g =
-      sym (step g allot [] p (allot_8 p (sized s (Measured e w)) (s.taken (Measured e w) r) (unfold entering in refl) (unfold entering in refl) (unfold entering in h)))
+      sym (step g allot [] p (allot_8 p (sized s (metered e w)) (s.taken (metered e w) r) (unfold entering in refl) (unfold entering in refl) (unfold entering in h)))
 
   offtake_is : x ≡ all_offtake (read p).users
   offtake_is = s.sum ∙ (unfold read user_at entering in refl)
 
   module _ (h : n ≡ 0 → ⊥) (g : ℕ) (out : List ℕ) where
-    allots : in_order g (allot ∷ []) p ≡ allotted g (after p (sized s (Measured e w)) (s.taken (Measured e w) r) (unfold entering in refl) e w (unfold entering in refl) (unfold entering in h))
-    allots = day_after p (sized s (Measured e w)) (s.taken (Measured e w) r) (unfold entering in refl) e w (unfold entering in refl) (unfold entering in h) g
+    allots : in_order g (allot ∷ []) p ≡ allotted g (after p (sized s (metered e w)) (s.taken (metered e w) r) (unfold entering in refl) e w (unfold entering in refl) (unfold entering in h))
+    allots = day_after p (sized s (metered e w)) (s.taken (metered e w) r) (unfold entering in refl) e w (unfold entering in refl) (unfold entering in h) g
 
     pub no_room : length out < REPORT_ROOM → Reported out (in_order g (allot ∷ []) p) (Err ShortBuffer) out
     no_room l = reported out (sym allots) (Err ShortBuffer) (short_room out g _ l)
@@ -135,7 +136,7 @@ module _ {n : ℕ} {us : List ℕ} {cs ls : List ℤ} {x : ℕ} (s : Entered n u
     shares_are =
         unfold entering in
         sym
-        (shares_day p (sized s (Measured e w)) (s.taken (Measured e w) r) refl e w refl h
+        (shares_day p (sized s (metered e w)) (s.taken (metered e w) r) refl e w refl h
         (q ∙ ap₂ (λ m a. m -ℤ pos a) net_is offtake_is))
 
     length_shares : length (shares_of b cs ls us n) ≡ n
@@ -150,7 +151,7 @@ module _ {n : ℕ} {us : List ℕ} {cs ls : List ℤ} {x : ℕ} (s : Entered n u
     pub by_shares : (g : ℕ) → shares_text g (e - w) x n us cs ls zs ≡ text (in_order g (allot ∷ []) p)
     by_shares g =
         unfold entering in
-        report_is p (sized s (Measured e w)) (s.taken (Measured e w) r) refl e w refl h zs at_share x offtake_is g
+        report_is p (sized s (metered e w)) (s.taken (metered e w) r) refl e w refl h zs at_share x offtake_is g
 
     pub shares_small : Small zs
     shares_small =
@@ -161,7 +162,7 @@ module _ {n : ℕ} {us : List ℕ} {cs ls : List ℤ} {x : ℕ} (s : Entered n u
             ap (every (no_more LIMIT)) (sym shares_are)
             ∙ every_all (no_more LIMIT) (user_shares (read p))
             (all_map (λ z. nat_abs z ≤ LIMIT) (λ z. no_more LIMIT z ≡ true) (λ z l. le-leb (nat_abs z) LIMIT l) (user_shares (read p))
-            (unfold entering in shares_limited p (sized s (Measured e w)) (s.taken (Measured e w) r) refl e w refl h))
+            (unfold entering in shares_limited p (sized s (metered e w)) (s.taken (metered e w) r) refl e w refl h))
 
         all : every (no_more LIMIT) zs ≡ true
         all =
@@ -171,14 +172,14 @@ module _ {n : ℕ} {us : List ℕ} {cs ls : List ℤ} {x : ℕ} (s : Entered n u
 
 -- ---- a measured point-day without users
 
-empty_day : Measurement → Day
+empty_day : Option Measurement → Day
 empty_day m = record { stage = Provisional; allotted = false; measurement = m; users = [] }
 
-unjoined_laid : (m : Measurement) → unjoined m ≡ laid (empty_day m)
+unjoined_laid : (m : Option Measurement) → unjoined m ≡ laid (empty_day m)
 unfolding unjoined entering laid padded flat empty_day
 unjoined_laid m = refl
 
-pub unjoined_taken : (m : Measurement) → measurement_right m ≡ true → taken (unjoined m) ≡ true
+pub unjoined_taken : (m : Option Measurement) → measurement_right m ≡ true → taken (unjoined m) ≡ true
 unfolding empty_day
 unjoined_taken m h =
     ap taken (unjoined_laid m)
@@ -200,7 +201,7 @@ zeros_entered p q r = rw (p, q, r) none_entered
 -- ---- the sections
 
 module _ (f : List ℕ) {us₀ : List ℕ} {cs₀ ls₀ : List ℤ} (zu : us₀ ≡ replicate USERS 0) (zc : cs₀ ≡ replicate CELLS (pos 0)) (zl : ls₀ ≡ replicate CELLS (pos 0))
-    (n : ℕ) (us : List ℕ) (cs ls : List ℤ) (m : Measurement) (r : measurement_right m ≡ true) where
+    (n : ℕ) (us : List ℕ) (cs ls : List ℤ) (m : Option Measurement) (r : measurement_right m ≡ true) where
   from : entering 0 us₀ cs₀ ls₀ ≡ unjoined
   unfolding unjoined
   from = λ i. entering 0 (zu i) (zc i) (zl i)

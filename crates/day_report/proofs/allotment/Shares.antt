@@ -19,7 +19,6 @@ use Rattle.point_day.specs.Limits.{KINDS, LIMIT}
 use Rattle.point_day.specs.Day.{User, Day, offtake, all_offtake, net, net_of, is_measured, some}
 use Rattle.point_day.specs.Calls.{by_basis, none_in_2_to_5, or_kind_1, kinds, day_balance, user_shares, with_share, balanced, allotted_with}
 use Rattle.point_day.specs.Struct.{Sized, kinds_of, user_at, read, none_below, taken}
-use Rattle.point_day.specs.declared.Measurement.TheVariants.{Measured}
 use Rattle.point_day.specs.declared.PointDay.{PointDay}
 use Rattle.point_day.proofs.Taken.{Taken, taken_facts}
 use Rattle.point_day.proofs.Arrays.{Full, nobody, read_laid}
@@ -37,6 +36,7 @@ use Rattle.report.specs.Lines.{of_slot, slot_line}
 use Rattle.report.proofs.lines.Sizes.{line_as}
 use Rattle.report.specs.Allotted.{shares_text}
 use Rattle.file_lines.proofs.Steps.{step}
+use Rattle.point_day.specs.Day.{metered}
 
 -- ---- sums over slots
 
@@ -91,7 +91,7 @@ balances all (u ∷ us) (z ∷ zs) l f = ap₂ ◌∷◌ (kinds_sum all u f.0 z)
 
 -- ---- a taken point-day that is entered and measured, with a user
 
-module _ (p : PointDay) (z : Sized p) (ok : taken p ≡ true) (a : p.allotted ≡ false) (e w : ℕ) (m : p.measurement ≡ Measured e w) (h : p.count ≡ 0 → ⊥) where
+module _ (p : PointDay) (z : Sized p) (ok : taken p ≡ true) (a : p.allotted ≡ false) (e w : ℕ) (m : p.measurement ≡ metered e w) (h : p.count ≡ 0 → ⊥) where
   abbrev us : List User
   us = (read p).users
 

@@ -29,7 +29,7 @@ returns-then-out-rows c d k x y z =
 pub write_rows-requires : goal.write_rows-requires
 write_rows-requires c =
     let p = c.requires in
-    (omega (arith, p.0), search rules, p.1, p.2, p.3, omega (arith, c.if-out-rows.false, c.count_rows-rows.ensures))
+    (omega (arith, p.0), search rules, omega (arith, c.if-out-rows.false, c.count_rows-rows.ensures))
 
 pub returns : goal.returns
 returns c d k x y z =

@@ -2,14 +2,9 @@
 use mathlib.Core.Path.{◌≡◌, refl, sym, ◌∙◌}
 use mathlib.Core.Bool.{true, false}
 use native.Mathlib.Omega.{arith}
-use lib.ListN.{length, take}
-use Prim.Native.Nat.{◌≤◌}
-use borrow.Author.Rules.{rules}
-use borrow.Author.Tests.{lt-ltb, le-ltb}
+use lib.ListN.{take}
 use Rattle.numbers.specs.Lists.{has}
-use Rattle.point_day.specs.Limits.{USERS}
-use Rattle.state.proofs.Numbers.{before_is}
-use Rattle.taken.proofs.Facts.{}
+use Rattle.state.proofs.Numbers.{slot_found}
 use Rattle.join.proofs.Joins.{join_1, join_2, join_4, join_5, join_done, fails, passes}
 use Rattle.join.proofs.join_test.Goals as goal
 
@@ -19,39 +14,25 @@ returns-then-state c = (λ d k. fails _ d 0 (join_1 _ d k.sized k.is_taken (k.al
 pub returns-then-user-eq0 : goal.returns-then-user-eq0
 returns-then-user-eq0 c = (λ d k. fails _ d 1 (join_2 _ d k.sized k.is_taken (k.allotted ∙ c.if-state.false) c.if-user-eq0.true))
 
-pub slot_of-requires : goal.slot_of-requires
-slot_of-requires c =
-    let long : length c.args.state.now.users ≡ USERS = search rules in
-    omega (arith, c.requires, long)
-
-pub returns-then-slot_of-count : goal.returns-then-slot_of-count
-returns-then-slot_of-count c =
+pub returns-then-is_some : goal.returns-then-is_some
+returns-then-is_some c =
     let n = c.args.user in
-    let p = c.slot_of in
-    let long : length c.args.state.now.users ≡ USERS = search rules in
-    let few : c.args.state.now.count ≤ length c.args.state.now.users = omega (arith, c.requires, long) in
     (λ d k.
-    let h : has n (take d.count d.users) ≡ true = rw (k.count, k.users) (sym (before_is n _ _ p.result few p.ensures) ∙ lt-ltb _ _ c.if-slot_of-count.true) in
+    let h : has n (take d.count d.users) ≡ true = rw (k.count, k.users) (sym (slot_found n _ _ c.slot_of.ensures) ∙ sym c.is_some.ensures ∙ c.if-is_some.true) in
     fails n d 3 (join_4 n d k.sized k.is_taken (k.allotted ∙ c.if-state.false) c.if-user-eq0.false (omega (arith, c.ranges.user.fits)) h))
 
 pub returns-then-count-ge-USERS : goal.returns-then-count-ge-USERS
 returns-then-count-ge-USERS c =
     let n = c.args.user in
-    let p = c.slot_of in
-    let long : length c.args.state.now.users ≡ USERS = search rules in
-    let few : c.args.state.now.count ≤ length c.args.state.now.users = omega (arith, c.requires, long) in
     (λ d k.
-    let h : has n (take d.count d.users) ≡ false = rw (k.count, k.users) (sym (before_is n _ _ p.result few p.ensures) ∙ le-ltb _ _ c.if-slot_of-count.false) in
+    let h : has n (take d.count d.users) ≡ false = rw (k.count, k.users) (sym (slot_found n _ _ c.slot_of.ensures) ∙ sym c.is_some.ensures ∙ c.if-is_some.false) in
     fails n d 4 (join_5 n d k.sized k.is_taken (k.allotted ∙ c.if-state.false) c.if-user-eq0.false (omega (arith, c.ranges.user.fits)) h (rw k.count c.if-count-ge-USERS.true)))
 
 pub returns : goal.returns
 returns c =
     let n = c.args.user in
-    let p = c.slot_of in
-    let long : length c.args.state.now.users ≡ USERS = search rules in
-    let few : c.args.state.now.count ≤ length c.args.state.now.users = omega (arith, c.requires, long) in
     (λ d k.
-    let h : has n (take d.count d.users) ≡ false = rw (k.count, k.users) (sym (before_is n _ _ p.result few p.ensures) ∙ le-ltb _ _ c.if-slot_of-count.false) in
+    let h : has n (take d.count d.users) ≡ false = rw (k.count, k.users) (sym (slot_found n _ _ c.slot_of.ensures) ∙ sym c.is_some.ensures ∙ c.if-is_some.false) in
     passes n d record {
       is = join_done n d k.sized k.is_taken (k.allotted ∙ c.if-state.false) c.if-user-eq0.false (omega (arith, c.ranges.user.fits)) h (rw k.count c.if-count-ge-USERS.false) refl;
       taken = k.is_taken;

@@ -1,63 +1,61 @@
 -- `line::slot_test` meets its contract, outcome by outcome, on any point-day that stands so. Assumes nothing.
-use mathlib.Core.Path.{sym, ◌∙◌}
-use Prim.Native.Nat.{◌<◌}
+use mathlib.Core.Path.{◌≡◌}
+use mathlib.Core.Bool.{true, false}
 use native.Mathlib.Omega.{arith}
-use borrow.Author.Tests.{not-true, not-false}
-use Rattle.state.specs.Places.{Placed}
+use borrow.Author.Rules.{rules}
+use Rattle.point_day.specs.Calls.{line_right}
 use Rattle.line.proofs.cells.Ranges.{ranges}
-use Rattle.line.proofs.Lining.{line_2, line_3, line_6, line_passed}
+use Rattle.line.proofs.Lining.{standing_at, line_2, line_3, line_6, line_passed}
 use Rattle.line.proofs.slot_test.Goals as goal
 
 pub returns-then-not-is_right : goal.returns-then-not-is_right
-returns-then-not-is_right c us d s p =
-    let a = c.args in
-    line_2 a.entry.user a.entry.kind a.entry.consumption a.entry.coefficient d s.sized s.is_taken s.entering (sym c.is_right.ensures ∙ not-true _ c.if-not-is_right.true-raw)
+returns-then-not-is_right c us n d s p =
+    let a = c.args.entry in
+    let h : line_right a.user a.kind a.consumption a.coefficient ≡ false = search rules in
+    line_2 a.user a.kind a.consumption a.coefficient d s.sized s.is_taken s.entering h
 
-pub returns-then-slot-count : goal.returns-then-slot-count
-returns-then-slot-count c us d s p =
-    let a = c.args in
-    let h = sym c.is_right.ensures ∙ not-false _ c.if-not-is_right.false-raw in
-    let q : Placed a.entry.user d.count d.users a.slot = rw (s.joined, s.users) p in
-    line_3 a.entry.user a.entry.kind a.entry.consumption a.entry.coefficient d s.sized s.is_taken s.entering h a.slot q (c.if-slot-count.true ∙ sym s.joined)
+pub returns-in_default : goal.returns-in_default
+returns-in_default c us n d s p =
+    let a = c.args.entry in
+    let h : line_right a.user a.kind a.consumption a.coefficient ≡ true = search rules in
+    line_3 a.user a.kind a.consumption a.coefficient d s.sized s.is_taken s.entering h (rw (s.joined, s.users) (rw c.in_default.is at p))
 
 pub losses-added-requires : goal.losses-added-requires
 losses-added-requires c =
-    let a = c.args in
-    let r = ranges a.entry.user a.entry.kind a.entry.consumption a.entry.coefficient (sym c.is_right.ensures ∙ not-false _ c.if-not-is_right.false-raw) in
+    let a = c.args.entry in
+    let r = ranges a.user a.kind a.consumption a.coefficient (search rules) in
     (r.consumption, r.coefficient)
 
 pub overflow_add-entry : goal.overflow_add-entry
 overflow_add-entry c =
-    let a = c.args in
-    let r = ranges a.entry.user a.entry.kind a.entry.consumption a.entry.coefficient (sym c.is_right.ensures ∙ not-false _ c.if-not-is_right.false-raw) in
+    let a = c.args.entry in
+    let r = ranges a.user a.kind a.consumption a.coefficient (search rules) in
     omega (arith, r.consumption, c.losses-added.ensures.1)
 
 pub overflow_add-offtake : goal.overflow_add-offtake
 overflow_add-offtake c =
-    let a = c.args in
-    let r = ranges a.entry.user a.entry.kind a.entry.consumption a.entry.coefficient (sym c.is_right.ensures ∙ not-false _ c.if-not-is_right.false-raw) in
-    omega (arith, r.consumption, c.losses-added.ensures.1, c.requires.2)
+    let a = c.args.entry in
+    let r = ranges a.user a.kind a.consumption a.coefficient (search rules) in
+    omega (arith, r.consumption, c.losses-added.ensures.1, c.requires.1)
 
 pub returns-then-offtake-entry-gt-LIMIT : goal.returns-then-offtake-entry-gt-LIMIT
-returns-then-offtake-entry-gt-LIMIT c us d s p =
-    let a = c.args in
-    let h = sym c.is_right.ensures ∙ not-false _ c.if-not-is_right.false-raw in
-    let q : Placed a.entry.user d.count d.users a.slot = rw (s.joined, s.users) p in
-    let here : a.slot < d.count = omega (arith, c.requires.0, c.if-slot-count.false, s.joined) in
+returns-then-offtake-entry-gt-LIMIT c us n d s p =
+    let a = c.args.entry in
+    let h : line_right a.user a.kind a.consumption a.coefficient ≡ true = search rules in
+    let q = standing_at s a.user c.in-Some.slot (rw c.in-Some.is at p) in
     let l = c.losses-added in
-    line_6 a.entry.user a.entry.kind a.entry.consumption a.entry.coefficient d s.sized s.is_taken s.entering h a.slot q here a.offtake l.result s.sum l.ensures.0 (omega (arith, c.if-offtake-entry-gt-LIMIT.true))
+    line_6 a.user a.kind a.consumption a.coefficient d s.sized s.is_taken s.entering h c.in-Some.slot q.0 q.1 c.args.offtake l.result s.sum l.ensures.0 (omega (arith, c.if-offtake-entry-gt-LIMIT.true))
 
 pub place-requires : goal.place-requires
 place-requires c =
-    let a = c.args in
-    let r = ranges a.entry.user a.entry.kind a.entry.consumption a.entry.coefficient (sym c.is_right.ensures ∙ not-false _ c.if-not-is_right.false-raw) in
-    (omega (arith, c.requires.0, c.if-slot-count.false), r.low, r.high)
+    let a = c.args.entry in
+    let r = ranges a.user a.kind a.consumption a.coefficient (search rules) in
+    (rw c.in-Some.is at c.requires.0, r.low, r.high)
 
 pub returns : goal.returns
-returns c us d s p =
-    let a = c.args in
-    let h = sym c.is_right.ensures ∙ not-false _ c.if-not-is_right.false-raw in
-    let q : Placed a.entry.user d.count d.users a.slot = rw (s.joined, s.users) p in
-    let here : a.slot < d.count = omega (arith, c.requires.0, c.if-slot-count.false, s.joined) in
+returns c us n d s p =
+    let a = c.args.entry in
+    let h : line_right a.user a.kind a.consumption a.coefficient ≡ true = search rules in
+    let q = standing_at s a.user c.in-Some.slot (rw c.in-Some.is at p) in
     let l = c.losses-added in
-    rw c.place.ensures.0 (line_passed a.entry.user a.entry.kind a.entry.consumption a.entry.coefficient d s.sized s.is_taken s.entering h a.slot q here a.offtake l.result s.sum l.ensures.0 c.if-offtake-entry-gt-LIMIT.false)
+    rw c.place.ensures.0 (line_passed a.user a.kind a.consumption a.coefficient d s.sized s.is_taken s.entering h c.in-Some.slot q.0 q.1 c.args.offtake l.result s.sum l.ensures.0 c.if-offtake-entry-gt-LIMIT.false)

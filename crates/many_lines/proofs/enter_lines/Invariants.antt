@@ -7,4 +7,6 @@ use Rattle.many_lines.proofs.enter_lines.Given as goal
 
 abbrev pub invariant-loop-i : goal.invariant-loop-i
 invariant-loop-i l =
-    (l.i ≤ length l.users) × (length l.day ≡ length l.initial.day) × Accepted (line_in l.users l.kinds l.consumptions l.coefficients) l.initial.day l.slots l.count l.day l.sum l.losses l.i
+    (l.i ≤ length l.lines.users.now)
+    × (length l.day ≡ length l.initial.day)
+    × Accepted (line_in l.lines.users.now l.lines.kinds.now l.lines.consumptions.now l.lines.coefficients.now) l.initial.day l.slots l.count l.day l.sum l.losses l.i

@@ -11,4 +11,4 @@ pub slice_bounds-sum_of-end : goal.slice_bounds-sum_of-end
 slice_bounds-sum_of-end c = omega (arith, length-take (5 * c.args.n) c.args.xs.now)
 
 pub sum_of-requires : goal.sum_of-requires
-sum_of-requires c = (omega (arith, length-take (5 * c.args.n) c.args.xs.now), λ i. widen (within_part ROOM c.args.xs.now c.requires.2 0 (5 * c.args.n) i) (omega arith))
+sum_of-requires c = (omega (arith, length-take (5 * c.args.n) c.args.xs.now), λ i. widen (within_part ROOM c.args.xs.now c.requires.1 0 (5 * c.args.n) i) (omega arith))

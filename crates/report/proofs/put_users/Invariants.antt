@@ -7,4 +7,4 @@ use Rattle.report.proofs.put_users.Given as goal
 
 abbrev pub invariant-loop-slot : goal.invariant-loop-slot
 invariant-loop-slot l =
-    Put l.initial.out l.i (flat (table (slot_line l.users l.consumption l.losses l.shares) l.slot)) l.out l.at × (l.at ≤ l.i + LONGEST_LINE * l.slot)
+    Put l.initial.out l.i (flat (table (slot_line l.slots.users.now l.slots.consumption.now l.slots.losses.now l.slots.shares.now) l.slot)) l.out l.at × (l.at ≤ l.i + LONGEST_LINE * l.slot)

@@ -7,6 +7,4 @@ pub loop-i-init : goal.loop-i-init
 loop-i-init c = scan_none _
 
 pub loop-i-preserved : goal.loop-i-preserved
-loop-i-preserved c =
-    let i = c.loop-i.i in
-    scan_more c.args.user c.args.users.now i (omega arith) c.loop-i.invariant c.if-users-i.false
+loop-i-preserved c = scan_more c.args.user c.args.users.now c.loop-i.i (omega arith) c.loop-i.invariant c.if-number-user.false

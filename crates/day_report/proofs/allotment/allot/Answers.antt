@@ -49,19 +49,24 @@ share_out-requires c =
     let w = a.header.downstream in
     let d = difference c.requires.2 e w c.requires.1 c.minus-balance.ensures in record { within = (balance_small c.requires.2 e w c.requires.1 d, in_range c.requires.2 e w c.requires.1, search rules); n_nonzero = (omega (arith, c.if-n-eq0.false), few c.requires.2, omega (arith, few c.requires.2, ap length c.no_amounts-shares.ensures, length-replicate {A = ℤ} USERS (pos 0))) }
 
-pub put_allotted-requires : goal.put_allotted-requires
-put_allotted-requires c =
+pub invariant_of-slots : goal.invariant_of-slots
+invariant_of-slots c =
     let a = c.args in
     let e = a.header.emission in
     let w = a.header.downstream in
     let d = difference c.requires.2 e w c.requires.1 c.minus-balance.ensures in record {
-      in_bounds = (omega (arith, c.if-out-lt-REPORT_ROOM.false), c.requires.0, omega (arith, emission_low c.requires.2 e w c.requires.1), sum_small c.requires.2, few c.requires.2);
+      few = few c.requires.2;
       small = (
         λ i. widen (limited_consumption c.requires.2 i) (omega arith),
         λ i. widen (limited_losses c.requires.2 i) (omega arith),
         shares_small c.requires.2 e w c.requires.1 c.if-n-eq0.false d c.no_amounts-shares.ensures c.share_out.ensures.shares_after,
       );
     }
+
+pub put_allotted-requires : goal.put_allotted-requires
+put_allotted-requires c =
+    let h = c.args.header in
+    (omega (arith, c.if-out-lt-REPORT_ROOM.false), c.requires.0, omega (arith, emission_low c.requires.2 h.emission h.downstream c.requires.1), sum_small c.requires.2)
 
 pub returns : goal.returns
 returns c =

@@ -1,8 +1,8 @@
 -- `day_report::allotment::enter` meets its contract. Assumes nothing.
 use Rattle.std.proofs.Common.{refl}
-use Rattle.point_day.specs.declared.Measurement.TheVariants.{Measured}
 use Rattle.day_report.proofs.allotment.Allotting.{reported, passing, zeros_entered, sections_refuse, sections_lead}
 use Rattle.day_report.proofs.allotment.enter.Goals as goal
+use Rattle.point_day.specs.Day.{metered}
 
 pub enter_sections-requires : goal.enter_sections-requires
 enter_sections-requires c = (refl, zeros_entered c.no_users-users.ensures c.no_cells-consumption.ensures c.no_cells-losses.ensures)
@@ -15,7 +15,7 @@ returns-in_err-offtake c =
     let e = c.in_err-offtake.field-0.0 in
     let both = passing a.out.now _ e c.from_residual.ensures.1
     (sections_refuse a.file.now.bytes.now c.no_users-users.ensures c.no_cells-consumption.ensures c.no_cells-losses.ensures h.sections after.users after.consumption after.losses
-    (Measured h.emission h.downstream) c.requires.1 e c.in_err-offtake.ensures.comes_to h.day) in
+    (metered h.emission h.downstream) c.requires.1 e c.in_err-offtake.ensures.comes_to h.day) in
     record { result_value = both.0; out_after = both.1 }
 
 pub allot-requires : goal.allot-requires
@@ -28,6 +28,6 @@ returns c =
     let after = c.enter_sections.new in
     let both = reported a.out.now
     (sections_lead a.file.now.bytes.now c.no_users-users.ensures c.no_cells-consumption.ensures c.no_cells-losses.ensures h.sections after.users after.consumption after.losses
-    (Measured h.emission h.downstream) c.requires.1 c.in_ok-offtake.offtake c.in_ok-offtake.ensures.comes_to h.day)
+    (metered h.emission h.downstream) c.requires.1 c.in_ok-offtake.offtake c.in_ok-offtake.ensures.comes_to h.day)
     c.allot.result (c.allot.ensures.result_value, c.allot.ensures.out_after) in
     record { result_value = both.0; out_after = both.1 }

@@ -1,10 +1,11 @@
 -- `file_lines::lines::enter_user` meets its contract: a user that is found has joined. Assumes nothing.
-use Rattle.std.proofs.Common.{ne_eqb, rules}
-use Rattle.numbers.proofs.Lists.{scan_found}
+use Rattle.std.proofs.Common.{◌≡◌, true, take, sym, ◌∙◌, ne_eqb}
+use Rattle.numbers.specs.Lists.{has}
+use Rattle.state.proofs.Numbers.{slot_found}
 use Rattle.file_lines.proofs.lines.enter_user.Goals as goal
 
-pub returns-then-slot_of-slot-clause-value : goal.returns-then-slot_of-slot-clause-value
-returns-then-slot_of-slot-clause-value c =
+pub returns-then-is_some-clause-value : goal.returns-then-is_some-clause-value
+returns-then-is_some-clause-value c =
     let a = c.args in
-    let p = c.slot_of in
-    rw (ne_eqb a.user 0 c.if-user-eq0.false, scan_found a.user a.users.now p.result a.slot c.if-slot_of-slot.true (search rules) (p.ensures.there c.if-slot_of-slot.true))
+    let h : has a.user (take a.slot a.users.now) ≡ true = sym (slot_found a.user _ _ c.slot_of.ensures) ∙ sym c.is_some.ensures ∙ c.if-is_some.true in
+    rw (ne_eqb a.user 0 c.if-user-eq0.false, h)

@@ -12,9 +12,9 @@ use Rattle.report.proofs.lines.of_slot.Goals as goal
 pub sum_of-requires : goal.sum_of-requires
 sum_of-requires c =
     let s = c.args.slot in
-    (omega (arith, length-take ((5 * s + 5) - 5 * s) (drop (5 * s) c.args.xs.now)), λ i. widen (within_part ROOM c.args.xs.now c.requires.2 (5 * s) ((5 * s + 5) - 5 * s) i) (omega arith))
+    (omega (arith, length-take ((5 * s + 5) - 5 * s) (drop (5 * s) c.args.xs.now)), λ i. widen (within_part ROOM c.args.xs.now c.requires.1 (5 * s) ((5 * s + 5) - 5 * s) i) (omega arith))
 
 pub returns : goal.returns
 returns c =
     let e : (5 * c.args.slot + 5) - 5 * c.args.slot ≡ 5 = omega arith in
-    wrapped (c.sum_of.ensures ∙ ap (λ n. totalZ (take n (drop (5 * c.args.slot) c.args.xs.now))) e) (slot_within c.args.xs.now c.requires.2 c.args.slot) (omega arith)
+    wrapped (c.sum_of.ensures ∙ ap (λ n. totalZ (take n (drop (5 * c.args.slot) c.args.xs.now))) e) (slot_within c.args.xs.now c.requires.1 c.args.slot) (omega arith)

@@ -1,6 +1,7 @@
 -- `taken::user_numbers::stands_before` meets its contract. Assumes nothing.
-use Rattle.state.proofs.Numbers.{before_is}
+use mathlib.Core.Path.{◌∙◌}
+use Rattle.state.proofs.Numbers.{slot_found}
 use Rattle.taken.proofs.user_numbers.stands_before.Goals as goal
 
 pub returns-then-marked : goal.returns-then-marked
-returns-then-marked c = rw c.if-marked.true (before_is _ _ _ _ c.requires c.slot_of.ensures)
+returns-then-marked c = rw c.if-marked.true (c.is_some.ensures ∙ slot_found _ _ _ c.slot_of.ensures)

@@ -1,7 +1,0 @@
-use mathlib.Core.Path.{◌≡◌}
-use Prim.Native.Nat.{◌≤◌}
-use Rattle.inventory.specs.Cells.{row_count}
-use Rattle.inventory.proofs.cells.count_rows.Given as goal
-
-abbrev pub invariant-loop-i : goal.invariant-loop-i
-invariant-loop-i l = (l.count ≡ row_count l.consumption l.losses l.balance l.i) × (l.count ≤ l.i)
