@@ -22,7 +22,6 @@ use Rattle.point_day.specs.Struct.{Outcome, read, taken, outcome, called}
 use Rattle.point_day.specs.declared.PointDay.{PointDay}
 use Rattle.point_day.proofs.Taken.{taken_facts}
 use Rattle.point_day.proofs.Called.{called_untaken}
-use Rattle.state.specs.Places.{Placed}
 use Rattle.line.specs.Cell.{line_losses, place}
 use Rattle.state.specs.Places.{more}
 use Rattle.line.specs.Lined.{with_cells, Lines, Stands}
@@ -72,9 +71,8 @@ module _ {us : List ℕ} {count sum : ℕ} {d : PointDay} (s : Stands us count s
     at_place : (i : ℕ) → i < d.count → get_or d.users i 0 ≡ n → A
     at_place i m h =
         let x = line_losses c k in
-        let p : Placed n d.count d.users i = record { within = omega arith; there = λ q. h; missing = λ q. absurd (omega arith) } in
-        ⊎_elim (λ q. no 6 refl (line_6 n kind c k d s.sized s.is_taken s.entering r i p m sum x s.sum refl q))
-        (λ q. yes (place i kind) x (line_passed n kind c k d s.sized s.is_taken s.entering r i p m sum x s.sum refl q))
+        ⊎_elim (λ q. no 6 refl (line_6 n kind c k d s.sized s.is_taken s.entering r i m h sum x s.sum refl q))
+        (λ q. yes (place i kind) x (line_passed n kind c k d s.sized s.is_taken s.entering r i m h sum x s.sum refl q))
         (lt_or_ge LIMIT (sum + (c + x)))
 
     by_user : (b : Bool) → has n (take d.count d.users) ≡ b → A
@@ -84,8 +82,7 @@ module _ {us : List ℕ} {count sum : ℕ} {d : PointDay} (s : Stands us count s
         let j : i < d.count = omega (arith, length-take-le d.count d.users few) in
         at_place i j (sym (get_or-take d.count d.users i 0 j) ∙ h))
     by_user false e =
-        let p : Placed n d.count d.users d.count = record { within = omega arith; there = λ q. absurd (omega arith); missing = λ q. e } in
-        no 3 refl (line_3 n kind c k d s.sized s.is_taken s.entering r d.count p refl)
+        no 3 refl (line_3 n kind c k d s.sized s.is_taken s.entering r e)
 
   by_ranges : (b : Bool) → calls.line_right n kind c k ≡ b → A
   by_ranges true r = by_user r (has n (take d.count d.users)) refl

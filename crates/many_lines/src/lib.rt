@@ -6,7 +6,7 @@ ghost use Rattle.std.specs.Prelude.{◌≡◌, true, [], ◌∷◌, ◌≤◌, �
 ghost use Rattle.numbers.specs.Sums.{pick, at};
 ghost use Rattle.numbers.specs.Refusals.{status_of};
 ghost use Rattle.point_day.specs.Limits.{USERS};
-ghost use Rattle.state.specs.Places.{Placed};
+ghost use Rattle.state.specs.Places.{SlotOf};
 ghost use Rattle.line.specs.Lined.{Stands};
 ghost use Rattle.plain_day.specs.Layout.{is_readable, day_in};
 ghost use Rattle.plain_day.specs.Plain.{plain};
@@ -23,27 +23,27 @@ use plain_day::writes;
 const HINTS: usize = 1024;
 
 // Slots by the remainder of the user number; of two users with the same remainder the later one is hinted at.
-fn hints_of(slots: &[u16], count: usize) -> [u8; HINTS]
-    requires { (count ≤ length slots.now) × (count ≤ USERS) }
+fn hints_of(slots: &[u16]) -> [u8; HINTS]
+    requires { length slots.now ≤ USERS }
     ensures { length result ≡ HINTS }
 {
     let mut hints = [0; HINTS];
-    for i in 0..count {
+    for i in 0..slots.len() {
         hints[usize::from(slots[i]) % HINTS] = i as u8;
     }
     hints
 }
 
-// The slot of the user, or the count: the hint is tried first.
-fn slot_near<'a>(hints: &'a [u8], slots: &'a [u16], count: usize, user: u16) -> usize
-    requires { (length hints.now ≡ HINTS) × (count ≤ length slots.now) }
-    ensures { Placed user count slots.now result }
+// The slot of the user, if it has joined: the hint is tried first.
+fn slot_near(hints: &[u8], slots: &[u16], user: u16) -> Option<usize>
+    requires { length hints.now ≡ HINTS }
+    ensures { SlotOf user slots.now result }
 {
     let near = usize::from(hints[usize::from(user) % HINTS]);
-    if near < count && slots[near] == user {
-        return near;
+    if near < slots.len() && slots[near] == user {
+        return Some(near);
     }
-    state::slot_of(slots, count, user)
+    state::slot_of(slots, user)
 }
 
 // ---- The lines
@@ -117,13 +117,14 @@ fn enter_lines<'a>(
     requires taken { (is_readable day.old ≡ true) × Stands slots.now count offtake (day_in day.old) }
     ensures { plain (status_of result.end) (pos result.accepted ∷ pos result.losses ∷ []) day.new ≡ in_numbers (line_calls (lines_in lines.now.users.now lines.now.kinds.now lines.now.consumptions.now lines.now.coefficients.now) (day_in day.old)) day.old }
 {
-    let hints = hints_of(slots, count);
+    let joined = &slots[..count];
+    let hints = hints_of(joined);
     let mut sum = offtake;
     let mut losses: u64 = 0;
     for i in 0..lines.users.len() {
         let entry = lines.entry(i);
-        let slot = slot_near(&hints, slots, count, entry.user);
-        match line::slot_test(slot, count, sum, entry) {
+        let slot = slot_near(&hints, joined, entry.user);
+        match line::slot_test(slot, sum, entry) {
             Err(refusal) => {
                 return entered(Err(refusal), i, losses);
             }

@@ -1,6 +1,6 @@
 -- Stand-in with rows in three lists: each outcome of the call. Assumes nothing.
 use mathlib.Core.Path.{◌≡◌, sym, ap, ◌∙◌}
-use mathlib.Core.Bool.{true, false, not}
+use mathlib.Core.Bool.{Bool, true, false, not}
 use mathlib.Core.List.{List}
 use Prim.Native.Nat.{ℕ, ◌*◌, ◌≤◌, ◌<◌}
 use lib.Dec.{leb, eqb}
@@ -16,11 +16,15 @@ use Rattle.point_day.specs.Struct.{Sized, taken, row_at, rows_of, Outcome, outco
 use Rattle.point_day.specs.declared.PointDay.{PointDay}
 use Rattle.taken.specs.Tested.{Known}
 use Rattle.taken.specs.declared.State.{State}
-use Rattle.stand_in.specs.Rows.{rows, rows_in, Nearest}
+use Rattle.stand_in.specs.Rows.{rows, rows_readable, rows_in, Nearest}
 use Rattle.stand_in.proofs.rows.Rows.{none_filled, rows_lengths, rows_held, right_readable}
 use Rattle.stand_in.specs.Openings.{Usable, RowTested, row_users}
 use Rattle.stand_in.proofs.opening.Standing.{stand_in_10, stand_in_row, stand_in_done, count_few, named_users, named_few}
 use Rattle.stand_in.specs.StandsIn.{StandsIn}
+
+-- the test of the rows, on lists that hold rows
+pub right_in : (cs us : List ℕ) (zs : List ℤ) → rows_readable cs us zs ≡ true → {b : Bool} → b ≡ every row_right (rows_of (rows cs us zs)) → every row_right (rows_of (rows_in cs us zs)) ≡ b
+right_in cs us zs e h = sym (h ∙ ap (λ rs. every row_right (rows_of rs)) (rows_held cs us zs e))
 
 module _ (cs us : List ℕ) (zs : List ℤ) (right : every row_right (rows_of (rows_in cs us zs)) ≡ true) where
   pub lengths : (length cs ≡ ROWS) × (length us ≡ USERS * ROWS) × (length zs ≡ USERS * ROWS)

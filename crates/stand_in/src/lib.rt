@@ -16,10 +16,12 @@ ghost use Rattle.stand_in.specs.StandsIn.{Tested};
 
 use numbers::Refusal;
 use point_day::{Accepted, Outcome, PointDay, StandInRows, TOLERANCE, USERS};
+use rows::RowLists;
 use taken::State;
 
 // The tests of a stand-in whose rows stand in three lists, on a taken point-day of which `state` is the test: the place of the row that is
-// used, from 0. If they pass, a column of zeros becomes the shares of the row's users.
+// used, from 0. If they pass, a column of zeros becomes the shares of the row's users. (The lists come one by one: those of other lengths
+// are refused in their place among the tests.)
 pub fn stand_in_test<'a>(
     state: &State,
     counts: &'a [usize],
@@ -34,7 +36,15 @@ pub fn stand_in_test<'a>(
     if !opening::is_open(state.stage, state.allotted, state.count) {
         return Err(Refusal::WrongStage);
     }
-    if !rows::rows_right(counts, joining, amounts) {
+    if !rows::rows_readable(counts, joining, amounts) {
+        return Err(Refusal::OutOfRange);
+    }
+    let rows = RowLists {
+        counts,
+        users: joining,
+        amounts,
+    };
+    if !rows.are_right() {
         return Err(Refusal::OutOfRange);
     }
     if !state::is_measured(state.measurement) {
@@ -44,10 +54,10 @@ pub fn stand_in_test<'a>(
     if net <= tolerance {
         return Err(Refusal::NetTooLow);
     }
-    let Some(row) = rows::nearest_filled(counts) else {
+    let Some(row) = rows.nearest_filled() else {
         return Err(Refusal::NoPair);
     };
-    opening::row_test(net, row, counts, joining, amounts, shares)?;
+    opening::row_test(net, row, &rows, shares)?;
     Ok(row)
 }
 

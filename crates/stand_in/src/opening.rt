@@ -5,9 +5,10 @@ ghost use Rattle.numbers.specs.Refusals.{status_of};
 ghost use Rattle.point_day.specs.Limits.{USERS, ROWS};
 ghost use Rattle.point_day.specs.Day.{provisional};
 ghost use Rattle.point_day.specs.Struct.{row_at};
-ghost use Rattle.stand_in.specs.Rows.{rows};
+ghost use Rattle.stand_in.specs.Rows.{rows as rows_of_lists};
 ghost use Rattle.stand_in.specs.Openings.{Usable, RowTested, opened_with};
 
+use super::rows::{self, RowLists};
 use columns::shares;
 use numbers::Refusal;
 use point_day::{PointDay, Stage, USERS};
@@ -37,27 +38,18 @@ pub fn opened(day: PointDay, users: &[u16], shares: [i64; USERS]) -> PointDay
 }
 
 // The tests of the row that is used. If they pass, zeros become the shares of its users: net prorated over them by its amounts.
-pub fn row_test<'a>(
-    net: u64,
-    row: usize,
-    counts: &'a [usize],
-    users: &'a [u16],
-    amounts: &'a [i64],
-    shares: &mut [i64],
-) -> Result<(), Refusal>
-    requires counts_len { (length counts.now ≡ ROWS) × (length users.now ≡ USERS * ROWS) × (length amounts.now ≡ USERS * ROWS) × (shares.old ≡ replicate USERS (pos 0)) }
-    requires usable { Usable (rows counts.now users.now amounts.now) net row }
-    ensures { RowTested (pos net) (row_at (rows counts.now users.now amounts.now) row) (status_of result) shares.new }
+pub fn row_test(net: u64, row: usize, rows: &RowLists, shares: &mut [i64]) -> Result<(), Refusal>
+    requires zeros { shares.old ≡ replicate USERS (pos 0) }
+    requires usable { Usable (rows_of_lists rows.now.counts.now rows.now.users.now rows.now.amounts.now) net row }
+    ensures { RowTested (pos net) (row_at (rows_of_lists rows.now.counts.now rows.now.users.now rows.now.amounts.now) row) (status_of result) shares.new }
 {
-    let from = USERS * row;
-    let to = from + counts[row];
-    let row_users = &users[from..to];
-    let row_amounts = &amounts[from..to];
-    if columns::any_negative(row_amounts) {
+    let users = rows::part_of(rows.counts, rows.users, row);
+    let amounts = rows::part_of(rows.counts, rows.amounts, row);
+    if columns::any_negative(amounts) {
         return Err(Refusal::NegativeWeight);
     }
-    let weight_sum = numbers::size(numbers::sum_of(row_amounts));
-    shares::share_out(net as i64, row_users, row_amounts, weight_sum, shares);
+    let weight_sum = numbers::size(numbers::sum_of(amounts));
+    shares::share_out(net as i64, users, amounts, weight_sum, shares);
     if taken::wholes_too_large(shares) {
         return Err(Refusal::AmountTooLarge);
     }

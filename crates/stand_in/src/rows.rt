@@ -1,16 +1,26 @@
 // The rows of a stand-in, one for each of the fifteen days before: whether they are in range, and the nearest with any pair.
-ghost use Rattle.std.specs.Prelude.{◌≡◌, ◌*◌, ◌≤◌, length};
+ghost use Rattle.std.specs.Prelude.{◌≡◌, ◌*◌, ◌≤◌, ◌<◌, get_or, length, take, drop};
 ghost use Rattle.numbers.specs.Lists.{both, every, rising};
 ghost use Rattle.point_day.specs.Limits.{USERS, ROWS, AMOUNT};
 ghost use Rattle.point_day.specs.Day.{no_more, is_number};
 ghost use Rattle.point_day.specs.Calls.{row_right};
 ghost use Rattle.point_day.specs.Struct.{rows_of};
 ghost use Rattle.stand_in.specs.Openings.{RowAt, row_users};
-ghost use Rattle.stand_in.specs.Rows.{rows, rows_readable, rows_in, NearestFilled};
+ghost use Rattle.stand_in.specs.Rows.{rows, rows_readable, NearestFilled};
 
 use point_day::{PAIRS, ROWS, USERS};
 
-// Whether the numbers of a row are user numbers, each above the one before.
+// A row's part of a list of all rows.
+pub fn part_of<'a, T>(counts: &'a [usize], xs: &'a [T], row: usize) -> &'a [T]
+    requires { (row < ROWS) × (length counts.now ≡ ROWS) × (get_or counts.now row 0 ≤ USERS) × (length xs.now ≡ USERS * ROWS) }
+    ensures { result.now ≡ take (get_or counts.now row 0) (drop (USERS * row) xs.now) }
+{
+    let from = USERS * row;
+    let to = from + counts[row];
+    &xs[from..to]
+}
+
+// Whether the numbers of a row are user numbers, each above the one before. (One loop tests both: what is above 0 or a user number is one.)
 fn numbers_right(users: &[u16]) -> bool
     ensures { result ≡ both (every is_number users.now) (rising users.now) }
 {
@@ -31,46 +41,49 @@ fn row_right(users: &[u16], amounts: &[i64]) -> bool
     numbers_right(users) && columns::all_limited(amounts)
 }
 
-// Whether each of the rows is.
-fn each_row_right<'a>(counts: &'a [usize], users: &'a [u16], amounts: &'a [i64]) -> bool
-    requires { (length counts.now ≡ ROWS) × (length users.now ≡ USERS * ROWS) × (length amounts.now ≡ USERS * ROWS) }
-    ensures { result ≡ every row_right (rows_of (rows counts.now users.now amounts.now)) }
-{
-    for i in 0..ROWS {
-        let n = counts[i];
-        if USERS < n {
-            return false;
-        }
-        let from = USERS * i;
-        let to = from + n;
-        if !row_right(&users[from..to], &amounts[from..to]) {
-            return false;
-        }
-    }
-    true
-}
-
 // Whether three lists have the lengths of lists that hold rows.
 #[tactic(auto, unfolding(crate::specs::Rows::rows_readable))]
-fn rows_readable<'a>(counts: &'a [usize], users: &'a [u16], amounts: &'a [i64]) -> bool
+pub fn rows_readable<'a>(counts: &'a [usize], users: &'a [u16], amounts: &'a [i64]) -> bool
     ensures { result ≡ rows_readable counts.now users.now amounts.now }
 {
     counts.len() == ROWS && users.len() == PAIRS && amounts.len() == PAIRS
 }
 
-// Whether the rows that three lists hold are in their range; lists of other lengths hold none that are.
-pub fn rows_right<'a>(counts: &'a [usize], users: &'a [u16], amounts: &'a [i64]) -> bool
-    ensures { result ≡ every row_right (rows_of (rows_in counts.now users.now amounts.now)) }
-{
-    rows_readable(counts, users, amounts) && each_row_right(counts, users, amounts)
+// The rows of a stand-in in three lists: fifteen counts; user number and amount of pair j of row i at 64 × i + j.
+#[derive(Clone, Copy)]
+pub struct RowLists<'a> {
+    pub counts: &'a [usize],
+    pub users: &'a [u16],
+    pub amounts: &'a [i64],
+    pub ghost counts_len: { length counts.now ≡ ROWS },
+    pub ghost users_len: { length users.now ≡ USERS * ROWS },
+    pub ghost amounts_len: { length amounts.now ≡ USERS * ROWS },
 }
 
-// The nearest row with any pair, from 0.
-pub fn nearest_filled(counts: &[usize]) -> Option<usize>
-    requires { length counts.now ≡ ROWS }
-    ensures { NearestFilled counts.now result }
-{
-    counts.iter().position(|&n| n != 0)
+impl<'a> RowLists<'a> {
+    // Whether each row is in its range.
+    pub fn are_right(&self) -> bool
+        ensures { result ≡ every row_right (rows_of (rows self.now.counts.now self.now.users.now self.now.amounts.now)) }
+    {
+        for i in 0..ROWS {
+            if USERS < self.counts[i] {
+                return false;
+            }
+            let users = part_of(self.counts, self.users, i);
+            let amounts = part_of(self.counts, self.amounts, i);
+            if !row_right(users, amounts) {
+                return false;
+            }
+        }
+        true
+    }
+
+    // The nearest row with any pair, from 0.
+    pub fn nearest_filled(&self) -> Option<usize>
+        ensures { NearestFilled self.now.counts.now result }
+    {
+        self.counts.iter().position(|&n| n != 0)
+    }
 }
 
 // The user numbers of a row.
@@ -78,7 +91,5 @@ pub fn row_users<'a>(counts: &'a [usize], users: &'a [u16], row: usize) -> &'a [
     requires { RowAt counts.now users.now row }
     ensures { (result.now ≡ row_users counts.now users.now row) × (length result.now ≤ USERS) }
 {
-    let from = USERS * row;
-    let to = from + counts[row];
-    &users[from..to]
+    part_of(counts, users, row)
 }

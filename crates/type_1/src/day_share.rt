@@ -4,7 +4,7 @@ ghost use Rattle.numbers.specs.Sums.{pick};
 ghost use Rattle.calendar.specs.Answers.{answer_of};
 ghost use Rattle.supply.specs.Amounts.{THOUSAND};
 ghost use Rattle.type_1.specs.MonthConsumption.{SmallBasis};
-ghost use Rattle.type_1.specs.DayShare.{day_of, part_of, MOST_DIVISOR};
+ghost use Rattle.type_1.specs.DayShare.{day_of, MOST_DIVISOR};
 
 use numbers::Refusal;
 use supply::THOUSAND;
@@ -22,26 +22,14 @@ pub fn day_of_month(basis: Option<Fraction>, part: u64, divisor: u64) -> Result<
     supply::limited_to(numbers::nearest(part * m.top, m.bottom * divisor))
 }
 
-// The thousandths of C_m that the working days share, or the others.
-pub fn part_for(working: bool, c_f: u32) -> u64
-    requires { c_f ≤ THOUSAND }
-    ensures { result ≡ part_of working c_f }
+// What the working days have of a whole, or what is left to the others.
+pub fn share_of(working: bool, whole: u64, of_working: u64) -> u64
+    requires { of_working ≤ whole }
+    ensures { result ≡ pick working of_working (whole - of_working) }
 {
     if working {
-        c_f as u64
+        of_working
     } else {
-        THOUSAND - c_f as u64
-    }
-}
-
-// The days that share them: N_lab working days of the month's N, or the N_res others.
-pub fn days_for(working: bool, all: u32, lab: u32) -> u64
-    requires { lab ≤ all }
-    ensures { result ≡ pick working lab (all - lab) }
-{
-    if working {
-        lab as u64
-    } else {
-        (all - lab) as u64
+        whole - of_working
     }
 }

@@ -101,7 +101,7 @@ pub fn toll_34(point: &Toll34) -> Result<u64, Refusal>
     day_share::day_of_month(basis, 1, month.days as u64)
 }
 
-// The consumption of a Type 1 point of another toll on a gas day.
+// The consumption of a Type 1 point of another toll on a gas day: working days share C_f of the month's, the others the rest.
 #[tactic(auto, using(crate::proofs::Tolls::for_other), unfolding(crate::specs::Type1::other_toll, crate::specs::Type1::other_right, calendar::specs::Answers::tested, calendar::specs::DayTypes::is_working, months::specs::WorkingDays::N_res))]
 pub fn other_toll(point: &OtherToll) -> Result<u64, Refusal>
     ensures { answer_of result ≡ other_toll point.now.day point.now.holidays.now point.now.last_year point.now.c_c point.now.last_month point.now.day_flow point.now.f_c point.now.c_f }
@@ -122,11 +122,8 @@ pub fn other_toll(point: &OtherToll) -> Result<u64, Refusal>
         month.days,
     );
     let working = calendar.day_type().is_working();
+    let part = day_share::share_of(working, THOUSAND, point.c_f as u64);
     let lab = months::working_days(month, &calendar);
-    let days = day_share::days_for(working, month.days, lab);
-    day_share::day_of_month(
-        basis,
-        day_share::part_for(working, point.c_f),
-        THOUSAND * days,
-    )
+    let days = day_share::share_of(working, month.days as u64, lab as u64);
+    day_share::day_of_month(basis, part, THOUSAND * days)
 }

@@ -2,7 +2,7 @@
 use mathlib.Core.Path.{◌≡◌, refl, sym, ap, ap₂, ◌∙◌}
 use mathlib.Core.Bool.{Bool, true, false, not}
 use mathlib.Core.List.{List, [], ◌∷◌, ◌++◌, map}
-use Prim.Native.Nat.{ℕ, suc, ◌+◌, ◌-◌, ◌*◌, ◌≤◌, ◌<◌}
+use Prim.Native.Nat.{ℕ, suc, ◌+◌, ◌*◌, ◌≤◌, ◌<◌}
 use native.Mathlib.Omega.{arith}
 use lib.Dec.{leb, eqb, lit<}
 use lib.IntN.{ℤ, pos, nat_abs}
@@ -143,10 +143,10 @@ module _ (rs : StandInRows) (n r : ℕ) (u : Usable rs n r) (ul : length rs.user
   count = get_or rs.counts r 0
 
   abbrev pub us : List ℕ
-  us = take (USERS * r + count - USERS * r) (drop (USERS * r) rs.users)
+  us = take count (drop (USERS * r) rs.users)
 
   abbrev pub zs : List ℤ
-  zs = take (USERS * r + count - USERS * r) (drop (USERS * r) rs.amounts)
+  zs = take count (drop (USERS * r) rs.amounts)
 
   row_long : length ps ≡ count
   row_long = length_table (pair_at rs r) count
@@ -170,9 +170,7 @@ module _ (rs : StandInRows) (n r : ℕ) (u : Usable rs n r) (ul : length rs.user
 
   -- the user numbers of the row, as the effect names them
   pub named_users : users_of ps ≡ users_in rs.counts rs.users r
-  named_users =
-      let e : USERS * r + count - USERS * r ≡ count = omega arith in
-      are_users ∙ ap (λ m. take m (drop (USERS * r) rs.users)) e
+  named_users = are_users
 
   pub named_few : length (users_in rs.counts rs.users r) ≤ USERS
   named_few = omega (arith, ap length named_users, length-map ps (λ (p : Pair). p.user), row.few)

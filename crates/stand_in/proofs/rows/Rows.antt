@@ -2,7 +2,7 @@
 use mathlib.Core.Path.{◌≡◌, refl, sym, ap, ap₂, ◌∙◌}
 use mathlib.Core.Bool.{Bool, true, false}
 use mathlib.Core.List.{List, [], ◌∷◌}
-use Prim.Native.Nat.{ℕ, zero, suc, ◌+◌, ◌-◌, ◌*◌, ◌≤◌, ◌<◌}
+use Prim.Native.Nat.{ℕ, zero, suc, ◌+◌, ◌*◌, ◌≤◌, ◌<◌}
 use native.Mathlib.Omega.{arith}
 use lib.Dec.{eqb}
 use lib.IntN.{ℤ, pos}
@@ -26,12 +26,10 @@ use Rattle.stand_in.specs.Rows.{rows, rows_readable, rows_in, Nearest}
 
 -- ---- part of an array
 
-part : {A : Type 0} (x : A) (xs : List A) (from n : ℕ) → from + n ≤ length xs → table (λ j. get_or xs (from + j) x) n ≡ take (from + n - from) (drop from xs)
+part : {A : Type 0} (x : A) (xs : List A) (from n : ℕ) → from + n ≤ length xs → table (λ j. get_or xs (from + j) x) n ≡ take n (drop from xs)
 part x xs from n l =
-    let e : n ≡ from + n - from = omega arith in
     table_by (λ j. get_or xs (from + j) x) (λ j. get_or (drop from xs) j x) n (λ j m. sym (get_or-drop from xs j x))
     ∙ table_take x (drop from xs) n (omega (arith, length-drop from xs))
-    ∙ ap (λ k. take k (drop from xs)) e
 
 module _ (rs : StandInRows) (us : length rs.users ≡ USERS * ROWS) (zs : length rs.amounts ≡ USERS * ROWS) (i : ℕ) (l : i < ROWS) where
   abbrev n : ℕ
@@ -39,14 +37,14 @@ module _ (rs : StandInRows) (us : length rs.users ≡ USERS * ROWS) (zs : length
 
   -- the numbers and the amounts of row i
   module _ (few : n ≤ USERS) where
-    pub row_users : users_of (row_at rs i) ≡ take (USERS * i + n - USERS * i) (drop (USERS * i) rs.users)
+    pub row_users : users_of (row_at rs i) ≡ take n (drop (USERS * i) rs.users)
     row_users = map_table (λ (p : Pair). p.user) (pair_at rs i) n ∙ part 0 rs.users (USERS * i) n (omega arith)
 
-    pub row_amounts : amounts_of (row_at rs i) ≡ take (USERS * i + n - USERS * i) (drop (USERS * i) rs.amounts)
+    pub row_amounts : amounts_of (row_at rs i) ≡ take n (drop (USERS * i) rs.amounts)
     row_amounts = map_table (λ (p : Pair). p.amount) (pair_at rs i) n ∙ part (pos 0) rs.amounts (USERS * i) n (omega arith)
 
-    pub row_is_right : let ns = take (USERS * i + n - USERS * i) (drop (USERS * i) rs.users) in
-        both (both (every is_number ns) (rising ns)) (every (no_more AMOUNT) (take (USERS * i + n - USERS * i) (drop (USERS * i) rs.amounts))) ≡ row_right (row_at rs i)
+    pub row_is_right : let ns = take n (drop (USERS * i) rs.users) in
+        both (both (every is_number ns) (rising ns)) (every (no_more AMOUNT) (take n (drop (USERS * i) rs.amounts))) ≡ row_right (row_at rs i)
     row_is_right =
         sym (ap₂ (λ ns ms. both (both (every is_number ns) (rising ns)) (every (no_more AMOUNT) ms)) row_users row_amounts)
         ∙ grouped (every is_number (users_of (row_at rs i))) (rising (users_of (row_at rs i))) (every (no_more AMOUNT) (amounts_of (row_at rs i)))
