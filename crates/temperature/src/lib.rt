@@ -85,7 +85,7 @@ pub fn mean_of(days: &[u32]) -> Fraction
 fn is_winter(days: &[u32]) -> bool
     ensures { result ≡ winter_right days.now }
 {
-    FEWEST_DAYS as usize <= days.len() && days.len() <= MOST_DAYS as usize && are_all_degrees(days)
+    (FEWEST_DAYS as usize..=MOST_DAYS as usize).contains(&days.len()) && are_all_degrees(days)
 }
 
 // One winter's degree days or two winters', as stated.

@@ -62,8 +62,7 @@ impl Year {
     {
         self.consumption <= MOST_MONTH
             && self.consumers <= MOST_CONSUMERS
-            && FEWEST_DAYS <= self.days
-            && self.days <= MOST_DAYS
+            && (FEWEST_DAYS..=MOST_DAYS).contains(&self.days)
     }
 }
 

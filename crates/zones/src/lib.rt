@@ -92,7 +92,7 @@ const PROVINCES: [Province; 48] = [
 pub fn province_of(number: u32) -> Result<Province, Refusal>
     ensures { answer_of result ≡ province_call number }
 {
-    if number < 1 || LAST_PROVINCE < number {
+    if !(1..=LAST_PROVINCE).contains(&number) {
         return Err(Refusal::OutOfRange);
     }
     Ok(PROVINCES[number as usize - 1])
