@@ -37,7 +37,7 @@ fn allot(out: &mut [u8], header: Header, entered: &Entering) -> Result<usize, Re
     let losses = &entered.losses;
     let net = header.emission - header.downstream;
     let balance = net as i64 - entered.offtake as i64;
-    let mut shares = point_day::no_amounts();
+    let mut shares = numbers::repeat::<_, USERS>(0);
     shares::share_out(balance, consumption, losses, users, n, &mut shares);
     let slots = Slots {
         count: n,

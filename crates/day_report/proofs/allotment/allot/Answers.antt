@@ -47,7 +47,7 @@ share_out-requires c =
     let a = c.args in
     let e = a.header.emission in
     let w = a.header.downstream in
-    let d = difference c.requires.2 e w c.requires.1 refl in record { within = (balance_small c.requires.2 e w c.requires.1 d, in_range c.requires.2 e w c.requires.1, search rules); n_nonzero = (omega (arith, c.if-n-eq0.false), few c.requires.2, omega (arith, few c.requires.2, ap length c.no_amounts-shares.ensures, length-replicate {A = ℤ} USERS (pos 0))) }
+    let d = difference c.requires.2 e w c.requires.1 refl in record { within = (balance_small c.requires.2 e w c.requires.1 d, in_range c.requires.2 e w c.requires.1, search rules); n_nonzero = (omega (arith, c.if-n-eq0.false), few c.requires.2, omega (arith, few c.requires.2, ap length c.repeat-shares.ensures, length-replicate {A = ℤ} USERS (pos 0))) }
 
 pub invariant_of-slots : goal.invariant_of-slots
 invariant_of-slots c =
@@ -59,7 +59,7 @@ invariant_of-slots c =
       small = (
         λ i. widen (limited_consumption c.requires.2 i) (omega arith),
         λ i. widen (limited_losses c.requires.2 i) (omega arith),
-        shares_small c.requires.2 e w c.requires.1 c.if-n-eq0.false d c.no_amounts-shares.ensures c.share_out.ensures.shares_after,
+        shares_small c.requires.2 e w c.requires.1 c.if-n-eq0.false d c.repeat-shares.ensures c.share_out.ensures.shares_after,
       );
     }
 
@@ -74,7 +74,7 @@ returns c =
     let e = a.header.emission in
     let w = a.header.downstream in
     let d = difference c.requires.2 e w c.requires.1 refl in
-    let t = by_shares c.requires.2 e w c.requires.1 c.if-n-eq0.false d c.no_amounts-shares.ensures c.share_out.ensures.shares_after a.header.day in
+    let t = by_shares c.requires.2 e w c.requires.1 c.if-n-eq0.false d c.repeat-shares.ensures c.share_out.ensures.shares_after a.header.day in
     let both = with_room c.requires.2 e w c.requires.1 c.if-n-eq0.false a.header.day a.out.now (omega (arith, c.if-out-lt-REPORT_ROOM.false)) t
     c.put_allotted.ensures.value c.put_allotted.ensures.out_after in
     record { result_value = both.0; out_after = both.1 }
