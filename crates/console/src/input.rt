@@ -94,7 +94,7 @@ impl<'a> Input<'a> {
         ensures ok { IsOk result ↔ (T.size * length list.old ≤ length self.old) }
         ensures value { OnOk result (list.new ≡ spelled_in T.size T.spelled self.old (length list.old)) }
         ensures rest { OnOk result (self.new ≡ drop (T.size * length list.old) self.old) }
-        ensures cut_short { OnErr result ((k : ℕ) × (list.new ≡ spelled_in T.size T.spelled self.old k ++ drop k list.old)) }
+        ensures cut_short { OnErr result ((k : ℕ) × (T.size * k ≤ length self.old) × (length self.old < T.size * (k + 1)) × (list.new ≡ spelled_in T.size T.spelled self.old k ++ drop k list.old)) }
         ensures onward { length self.new ≤ length self.old }
     {
         for x in list {

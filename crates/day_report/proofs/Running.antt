@@ -17,10 +17,7 @@ use Rattle.point_day.specs.Limits.{USERS, CELLS}
 use Rattle.point_day.specs.Day.{fresh, emission_right}
 use Rattle.point_day.specs.Struct.{Sized, padded, laid, taken}
 use Rattle.point_day.specs.declared.Measurement.{Measurement}
-use Rattle.std.specs.Prelude.{Result, Ok, Err}
-use Rattle.numbers.specs.declared.Refusal.{Refusal}
-use Rattle.numbers.specs.Refusals.{number_of}
-use Rattle.calendar.specs.Answers.{refused as refused-with, given, answer_of}
+use Rattle.calendar.specs.Answers.{refused as refused-with, given}
 use Rattle.calendar.specs.Days.{LAST_DAY}
 use Rattle.point_day.specs.Fields.{set_measurement}
 use Rattle.measure.proofs.Measures.{measure_2, measure_done}

@@ -6,31 +6,24 @@ ghost use Rattle.calendar.specs.Days.{LAST_DAY};
 ghost use Rattle.calendar.specs.Answers.{answer_of};
 ghost use Rattle.day_book.specs.Run.{allot};
 ghost use Rattle.day_file.specs.Report.{in_order};
-ghost use Rattle.file_lines.specs.Entering.{entering, Entered};
+ghost use Rattle.file_lines.specs.Entering.{day_of, Holds};
 ghost use Rattle.day_report.specs.Entered.{entered_and_allotted};
 ghost use Rattle.day_report.specs.Answered.{text_for, buffer_after, size_of};
 
 use super::REPORT_ROOM;
 use allot::shares;
 use day_file::{DayFile, Header};
+use file_lines::lines::Entering;
 use numbers::Refusal;
-use point_day::{CELLS, USERS};
+use point_day::USERS;
 use report::lines::Slots;
 
-// Allots a point-day that is entered, whose consumption and losses are `offtake`, and writes its report. The report needs no more than the
-// users' shares of the balance: their kinds add up to them, and no whole amount comes near refusal 12. Nothing refuses after the room is
-// tested, and nothing is written before.
-fn allot<'a>(
-    out: &mut [u8],
-    header: Header,
-    offtake: u64,
-    users: &'a [u16; USERS],
-    consumption: &'a [i64; CELLS],
-    losses: &'a [i64; CELLS],
-) -> Result<usize, Refusal>
-    requires { (header.day ≤ LAST_DAY) × (emission_right header.emission header.downstream ≡ true) × Entered header.sections users.now consumption.now losses.now offtake }
-    ensures result_value { answer_of result ≡ size_of (text_for (length out.old) (in_order header.day (allot ∷ []) (entering header.sections users.now consumption.now losses.now (metered header.emission header.downstream)))) }
-    ensures out_after { out.new ≡ buffer_after (text_for (length out.old) (in_order header.day (allot ∷ []) (entering header.sections users.now consumption.now losses.now (metered header.emission header.downstream)))) out.old }
+// Allots a point-day that is entered, and writes its report. The report needs no more than the users' shares of the balance: their kinds add
+// up to them, and no whole amount comes near refusal 12. Nothing refuses after the room is tested, and nothing is written before.
+fn allot(out: &mut [u8], header: Header, entered: &Entering) -> Result<usize, Refusal>
+    requires { (header.day ≤ LAST_DAY) × (emission_right header.emission header.downstream ≡ true) × Holds header.sections entered.now }
+    ensures result_value { answer_of result ≡ size_of (text_for (length out.old) (in_order header.day (allot ∷ []) (day_of entered.now header.sections (metered header.emission header.downstream)))) }
+    ensures out_after { out.new ≡ buffer_after (text_for (length out.old) (in_order header.day (allot ∷ []) (day_of entered.now header.sections (metered header.emission header.downstream)))) out.old }
 {
     let n = header.sections;
     if n == 0 {
@@ -39,8 +32,11 @@ fn allot<'a>(
     if out.len() < REPORT_ROOM {
         return Err(Refusal::ShortBuffer);
     }
+    let users = &entered.users;
+    let consumption = &entered.consumption;
+    let losses = &entered.losses;
     let net = header.emission - header.downstream;
-    let balance = numbers::minus(net as i64, offtake as i64);
+    let balance = net as i64 - entered.offtake as i64;
     let mut shares = point_day::no_amounts();
     shares::share_out(balance, consumption, losses, users, n, &mut shares);
     let slots = Slots {
@@ -50,7 +46,7 @@ fn allot<'a>(
         losses,
         shares: &shares,
     };
-    Ok(report::put_allotted(out, header.day, net, offtake, &slots))
+    Ok(report::put_allotted(out, header.day, net, entered.offtake, &slots))
 }
 
 // Enters the sections of a file into a measured point-day without users, allots it, and writes the report.
@@ -59,15 +55,7 @@ pub fn enter(file: &DayFile, out: &mut [u8]) -> Result<usize, Refusal>
     ensures result_value { let h = file.now.header in answer_of result ≡ size_of (text_for (length out.old) (entered_and_allotted file.now.bytes.now h.day (metered h.emission h.downstream))) }
     ensures out_after { let h = file.now.header in out.new ≡ buffer_after (text_for (length out.old) (entered_and_allotted file.now.bytes.now h.day (metered h.emission h.downstream))) out.old }
 {
-    let mut users = point_day::no_users();
-    let mut consumption = point_day::no_cells();
-    let mut losses = point_day::no_cells();
-    let offtake = file_lines::enter_sections(
-        file,
-        USERS,
-        &mut users,
-        &mut consumption,
-        &mut losses,
-    )?;
-    allot(out, file.header, offtake, &users, &consumption, &losses)
+    let mut entered = Entering::new();
+    entered.sections(file, USERS)?;
+    allot(out, file.header, &entered)
 }

@@ -1,9 +1,8 @@
 // The degree days of a day.
 #![tactic(auto)]
 
-ghost use Rattle.std.specs.Prelude.{◌≡◌, true, false, pos, ◌-ℤ◌};
-ghost use Rattle.std.specs.Int.Signed.{lt_z, le_z};
-ghost use Rattle.degree_days.specs.Degrees.{LOWEST, HIGHEST, BASE, temperatures_right, degree_days, degree_days_call, answer_of};
+ghost use Rattle.std.specs.Prelude.{◌≡◌, true, pos};
+ghost use Rattle.degree_days.specs.Degrees.{temperatures_right, degree_days, degree_days_call, answer_of};
 
 use numbers::Refusal;
 

@@ -229,9 +229,9 @@ fn day_type(input: &mut Input) -> Result<Result<&'static str, Refusal>, Malforme
 
 // A month's numbers.
 #[derive(Clone, Copy)]
-struct Month(MonthFigures);
+struct Figures(MonthFigures);
 
-impl fmt::Display for Month {
+impl fmt::Display for Figures {
     fn fmt<W: fmt::Write>(&self, f: &mut fmt::Formatter<W>) -> fmt::Result {
         let MonthFigures {
             first,
@@ -243,13 +243,13 @@ impl fmt::Display for Month {
     }
 }
 
-fn month(input: &mut Input) -> Result<Result<Month, Refusal>, Malformed>
+fn month(input: &mut Input) -> Result<Result<Figures, Refusal>, Malformed>
     ensures { length input.new ≤ length input.old }
 {
     let mut room = numbers::repeat::<_, MOST_HOLIDAYS>(0);
     let day = u32::read(input)?;
     let holidays = read_list::<u16, u32>(input, &mut room)?;
-    Ok(months::month_figures(day, holidays).map(Month))
+    Ok(months::month_figures(day, holidays).map(Figures))
 }
 
 // ---- the operations

@@ -1,31 +1,30 @@
 -- Calls one after the other: what they come to. Assumes nothing.
-use mathlib.Core.Path.{◌≡◌, refl, sym, ap, ◌∙◌, subst⁻¹, subst₃}
-use mathlib.Core.Bool.{Bool, true, false, not}
+use mathlib.Core.Path.{◌≡◌, refl, sym, ap, ◌∙◌, subst⁻¹}
+use mathlib.Core.Bool.{Bool, true, false}
 use mathlib.Core.List.{List, [], ◌∷◌, ◌++◌, append_assoc, append-nil}
 use Prim.Native.Nat.{ℕ, zero, suc, ◌+◌, ◌-◌, ◌≤◌}
 use native.Mathlib.Omega.{arith}
 use native.Mathlib.Numerals.{add-one}
-use lib.IntN.{ℤ}
 use lib.ListN.{get_or}
-use Rattle.std.specs.Prelude.{Result, Ok, Err}
+use Rattle.std.specs.Prelude.{Option, Result, Err}
 use Rattle.numbers.specs.declared.Refusal.{Refusal}
-use Rattle.numbers.specs.declared.Refusal.TheVariants.{OutOfRange, AboveLimit}
 use Rattle.numbers.specs.Refusals.{number_of}
-use Rattle.numbers.specs.Sums.{pick, table}
-use Rattle.numbers.specs.Lists.{both, flat}
+use Rattle.numbers.specs.Sums.{table}
+use Rattle.numbers.specs.Lists.{flat}
+use Rattle.numbers.proofs.Refusals.{refused_not_0}
 use Rattle.point_day.specs.Day.{measurement_right}
 use Rattle.point_day.specs.Calls.{line_right}
 use Rattle.point_day.specs.declared.Measurement.{Measurement}
 use Rattle.point_day.specs.declared.PointDay.{PointDay}
 use Rattle.point_day.proofs.Back.{flat_snoc}
-use Rattle.line.specs.Cell.{line_losses, past_limit, place}
-use Rattle.state.specs.Places.{more}
+use Rattle.line.specs.Cell.{past_limit}
+use Rattle.line.specs.declared.cells.LineEntry.{LineEntry}
 use Rattle.day_book.specs.Run.{Call, line}
 use Rattle.day_file.specs.Report.{refused, in_order}
-use Rattle.file_lines.specs.Entering.{entering, Entered, UnlessRefused, ComesTo}
-use Rattle.file_lines.specs.Pieces.{line_so_far, is_added}
+use Rattle.file_lines.specs.declared.lines.Entering.{Entering}
+use Rattle.file_lines.specs.Entering.{day_of, Holds, ComesTo}
+use Rattle.file_lines.specs.Pieces.{line_refusal, lined}
 use Rattle.file_lines.proofs.Steps.{line_out, line_past, line_added, line_entered}
-use Rattle.std.specs.Prelude.{Option}
 
 -- the calls lead from one point-day to another; the calls stop with a refusal
 abbrev pub Leads : List Call → (Option Measurement → PointDay) → (Option Measurement → PointDay) → Type 0
@@ -45,7 +44,7 @@ pub stops_there : {n : ℕ} (p : Option Measurement → PointDay) (ds bs : List 
 stops_there p ds bs h g m rest r = rw (append_assoc ds bs rest) (h g m (bs ++ rest) r)
 
 -- an answer that is a refusal
-pub stopped : {r : Result ℕ Refusal} {e : Refusal} → r ≡ Err e → (cs : List Call) (p q : Option Measurement → PointDay) → Stops (number_of e) cs p → ComesTo r cs p q
+pub stopped : {A : Type 0} {r : Result A Refusal} {e : Refusal} → r ≡ Err e → (cs : List Call) (p q : Option Measurement → PointDay) → Stops (number_of e) cs p → ComesTo r cs p q
 stopped e cs p q h = subst⁻¹ (λ r. ComesTo r cs p q) e h
 
 -- ---- calls in a table
@@ -78,25 +77,24 @@ flat_rest f n t l = ap flat (table_rest f n t l) ∙ flat_append (table f n) (ta
 
 -- ---- a line
 
--- a line at a slot: the answer, and the two arrays afterwards
-pub record Line (u slot kind c k x : ℕ) (cs ls : List ℤ) (r : Result ℕ Refusal) (cs' ls' : List ℤ) : Type 0 where
-  pub answer : r ≡ line_so_far u kind c k x
-  pub consumption : cs' ≡ pick (is_added u kind c k x) (more (place slot kind) c cs) cs
-  pub losses : ls' ≡ pick (is_added u kind c k x) (more (place slot kind) (line_losses c k) ls) ls
+module _ (i : ℕ) {e : Entering} (s : Holds (i + 1) e) (l : LineEntry) (here : get_or e.users i 0 ≡ l.user) where
+  abbrev call : Call
+  call = line l.user l.kind l.consumption l.coefficient
 
-module _ (i : ℕ) {us : List ℕ} {cs ls : List ℤ} {x : ℕ} (s : Entered (i + 1) us cs ls x) (u kind c k : ℕ) (here : get_or us i 0 ≡ u) where
-  -- what its entry comes to
-  abbrev LineComes : Result ℕ Refusal → List ℤ → List ℤ → Type 0
-  LineComes r cs' ls' = UnlessRefused r (Entered (i + 1) us cs' ls') × ComesTo r (line u kind c k ∷ []) (entering (i + 1) us cs ls) (entering (i + 1) us cs' ls')
+  pub line_stops : (n : Refusal) → number_of n ≡ line_refusal l e.offtake → Stops (number_of n) (call ∷ []) (day_of e (i + 1))
+  line_stops n h g m rest r = go (line_right l.user l.kind l.consumption l.coefficient) refl (past_limit e.offtake l.consumption l.coefficient) refl
+    where
+      go : (b : Bool) → line_right l.user l.kind l.consumption l.coefficient ≡ b → (d : Bool) → past_limit e.offtake l.consumption l.coefficient ≡ d
+          → in_order g (call ∷ rest) (day_of e (i + 1) m) ≡ refused (number_of n)
+      go false f d k = let z : number_of n ≡ 2 = h ∙ rw f in line_out i s l.user l.kind l.consumption l.coefficient here f g m rest r ∙ ap refused (sym z)
+      go true f true k = let z : number_of n ≡ 6 = h ∙ rw (f, k) in line_past i s l.user l.kind l.consumption l.coefficient here f k g m rest r ∙ ap refused (sym z)
+      go true f false k = absurd (refused_not_0 n (h ∙ rw (f, k)))
 
-  by_tests : (b d : Bool) → line_right u kind c k ≡ b → past_limit x c k ≡ d
-      → LineComes (pick b (pick d (Err AboveLimit) (Ok (x + (c + line_losses c k)))) (Err OutOfRange))
-      (pick (both b (not d)) (more (place i kind) c cs) cs) (pick (both b (not d)) (more (place i kind) (line_losses c k) ls) ls)
-  by_tests false d e f = (tt, line_out i s u kind c k here e)
-  by_tests true true e f = (tt, line_past i s u kind c k here e f)
-  by_tests true false e f = (line_entered i s u kind c k here e f, line_added i s u kind c k here e f)
-
-  pub line_comes : {r : Result ℕ Refusal} {cs' ls' : List ℤ} → Line u i kind c k x cs ls r cs' ls'
-      → UnlessRefused r (Entered (i + 1) us cs' ls') × ComesTo r (line u kind c k ∷ []) (entering (i + 1) us cs ls) (entering (i + 1) us cs' ls')
-  line_comes h =
-      subst₃ LineComes (sym h.answer) (sym h.consumption) (sym h.losses) (by_tests (line_right u kind c k) (past_limit x c k) refl refl)
+  pub line_goes : 0 ≡ line_refusal l e.offtake → Holds (i + 1) (lined i l e) × Leads (call ∷ []) (day_of e (i + 1)) (day_of (lined i l e) (i + 1))
+  line_goes h = go (line_right l.user l.kind l.consumption l.coefficient) refl (past_limit e.offtake l.consumption l.coefficient) refl
+    where
+      go : (b : Bool) → line_right l.user l.kind l.consumption l.coefficient ≡ b → (d : Bool) → past_limit e.offtake l.consumption l.coefficient ≡ d
+          → Holds (i + 1) (lined i l e) × Leads (call ∷ []) (day_of e (i + 1)) (day_of (lined i l e) (i + 1))
+      go false f d k = absurd (let z : 0 ≡ 2 = h ∙ rw f in omega arith)
+      go true f true k = absurd (let z : 0 ≡ 6 = h ∙ rw (f, k) in omega arith)
+      go true f false k = (line_entered i s l.user l.kind l.consumption l.coefficient here f k, line_added i s l.user l.kind l.consumption l.coefficient here f k)

@@ -12,6 +12,7 @@ use Rattle.point_day.specs.declared.Measurement.{Measurement}
 use Rattle.point_day.specs.declared.PointDay.{PointDay}
 use Rattle.day_book.specs.Run.{Call}
 use Rattle.day_file.specs.Report.{refused, in_order}
+use Rattle.file_lines.specs.declared.lines.Entering.{Entering}
 use Rattle.std.specs.Prelude.{Option, None}
 
 -- the point-day of n users, their numbers, consumption and losses, with a measurement and nothing allotted yet
@@ -26,13 +27,20 @@ pub record Entered (n : ℕ) (us : List ℕ) (cs ls : List ℤ) (offtake : ℕ) 
   pub taken : (m : Option Measurement) → measurement_right m ≡ true → taken (entering n us cs ls m) ≡ true
   pub sum : offtake ≡ all_offtake (read (entering n us cs ls None)).users
 
--- what an answer promises of the offtake that it holds
-abbrev pub UnlessRefused : Result ℕ Refusal → (ℕ → Type 0) → Type 0
+-- the same of the arrays with their sum
+abbrev pub day_of : Entering → ℕ → Option Measurement → PointDay
+day_of e n = entering n e.users e.consumption e.losses
+
+abbrev pub Holds : ℕ → Entering → Type 0
+Holds n e = Entered n e.users e.consumption e.losses e.offtake
+
+-- what an answer promises where it is no refusal
+abbrev pub UnlessRefused : {A : Type 0} → Result A Refusal → Type 0 → Type 0
 UnlessRefused (Err r) P = Unit {0}
-UnlessRefused (Ok x) P = P x
+UnlessRefused (Ok x) P = P
 
 -- what calls come to on a point-day, whatever its measurement and the calls after them
-abbrev pub ComesTo : Result ℕ Refusal → List Call → (Option Measurement → PointDay) → (Option Measurement → PointDay) → Type 0
+abbrev pub ComesTo : {A : Type 0} → Result A Refusal → List Call → (Option Measurement → PointDay) → (Option Measurement → PointDay) → Type 0
 ComesTo (Err r) calls before after = (day : ℕ) (m : Option Measurement) (rest : List Call) → measurement_right m ≡ true
     → in_order day (calls ++ rest) (before m) ≡ refused (number_of r)
 ComesTo (Ok x) calls before after = (day : ℕ) (m : Option Measurement) (rest : List Call) → measurement_right m ≡ true

@@ -1,4 +1,4 @@
-// The sections of a day file entered into lent arrays.
+// The sections of a day file entered into the arrays of a point-day.
 #![tactic(auto)]
 
 pub mod lines;
@@ -8,58 +8,39 @@ ghost use Rattle.numbers.specs.Lists.{flat};
 ghost use Rattle.point_day.specs.Limits.{USERS};
 ghost use Rattle.day_file.specs.Form.{pair_count, section_at, sections};
 ghost use Rattle.day_file.specs.File.{section_calls};
-ghost use Rattle.file_lines.specs.Entering.{entering, Entered, UnlessRefused, ComesTo};
+ghost use Rattle.file_lines.specs.Entering.{day_of, Holds, UnlessRefused, ComesTo};
 
 use day_file::{DayFile, LINE, USER};
+use lines::Entering;
 use numbers::Refusal;
-use point_day::{CELLS, USERS};
 
-// Section i of the file, of whose sections at most `limit` are taken: a user and its lines. The answer is all consumption and losses with it.
-fn enter_section(
-    file: &DayFile,
-    i: usize,
-    limit: usize,
-    offtake: u64,
-    users: &mut [u16; USERS],
-    consumption: &mut [i64; CELLS],
-    losses: &mut [i64; CELLS],
-) -> Result<u64, Refusal>
-    requires { (i < pair_count file.now.bytes.now) × (limit ≡ USERS) × Entered i users.old consumption.old losses.old offtake }
-    ensures unless_refused { UnlessRefused result (Entered (i + 1) users.new consumption.new losses.new) }
-    ensures comes_to { ComesTo result (section_calls file.now.bytes.now (section_at file.now.bytes.now i))
-        (entering i users.old consumption.old losses.old)
-        (entering (i + 1) users.new consumption.new losses.new) }
-{
-    let section = file.section(i);
-    let user = wire::read::<2>(file.bytes, section.offset) as u16;
-    lines::enter_user(users, i, limit, user)?;
-    let lines = section.lines();
-    let mut sum = offtake;
-    for j in 0..lines {
-        let entry = lines::read_line(file.bytes, section.offset + USER + LINE * j, user);
-        sum = lines::enter_line(entry, i, sum, consumption, losses)?;
+impl Entering {
+    // Section i of the file, of whose sections at most `limit` are taken: a user and its lines.
+    fn section(&mut self, file: &DayFile, i: usize, limit: usize) -> Result<(), Refusal>
+        requires { (i < pair_count file.now.bytes.now) × (limit ≡ USERS) × Holds i self.old }
+        ensures unless_refused { UnlessRefused result (Holds (i + 1) self.new) }
+        ensures comes_to { ComesTo result (section_calls file.now.bytes.now (section_at file.now.bytes.now i)) (day_of self.old i) (day_of self.new (i + 1)) }
+    {
+        let section = file.section(i);
+        let user = wire::read::<2>(file.bytes, section.offset) as u16;
+        self.join(i, limit, user)?;
+        let lines = section.lines();
+        for j in 0..lines {
+            let entry = lines::read_line(file.bytes, section.offset + USER + LINE * j, user);
+            self.line(i, entry)?;
+        }
+        Ok(())
     }
-    Ok(sum)
-}
 
-// All sections of the file, one after the other, on the arrays of a point-day without users; at most `limit` are taken. The answer is all
-// consumption and losses.
-pub fn enter_sections(
-    file: &DayFile,
-    limit: usize,
-    users: &mut [u16; USERS],
-    consumption: &mut [i64; CELLS],
-    losses: &mut [i64; CELLS],
-) -> Result<u64, Refusal>
-    requires { (limit ≡ USERS) × Entered 0 users.old consumption.old losses.old 0 }
-    ensures unless_refused { UnlessRefused result (Entered file.now.header.sections users.new consumption.new losses.new) }
-    ensures comes_to { ComesTo result (flat (map (section_calls file.now.bytes.now) (sections file.now.bytes.now)))
-        (entering 0 users.old consumption.old losses.old)
-        (entering file.now.header.sections users.new consumption.new losses.new) }
-{
-    let mut sum = 0;
-    for i in 0..file.header.sections {
-        sum = enter_section(file, i, limit, sum, users, consumption, losses)?;
+    // All sections of the file, one after the other, where no user has joined; at most `limit` are taken.
+    pub fn sections(&mut self, file: &DayFile, limit: usize) -> Result<(), Refusal>
+        requires { (limit ≡ USERS) × Holds 0 self.old }
+        ensures unless_refused { UnlessRefused result (Holds file.now.header.sections self.new) }
+        ensures comes_to { ComesTo result (flat (map (section_calls file.now.bytes.now) (sections file.now.bytes.now))) (day_of self.old 0) (day_of self.new file.now.header.sections) }
+    {
+        for i in 0..file.header.sections {
+            self.section(file, i, limit)?;
+        }
+        Ok(())
     }
-    Ok(sum)
 }

@@ -1,12 +1,11 @@
-// A line and a user of a day file, entered into lent arrays.
-ghost use Rattle.std.specs.Prelude.{◌≡◌, ◌+◌, ◌≤◌, ◌<◌, eqb, length, set};
+// A line and a user of a day file, entered into the arrays of a point-day.
+ghost use Rattle.std.specs.Prelude.{◌≡◌, ◌+◌, ◌≤◌, ◌<◌, eqb, length};
 ghost use Rattle.numbers.specs.Sums.{pick};
 ghost use Rattle.numbers.specs.Refusals.{status_of};
 ghost use Rattle.point_day.specs.Limits.{USERS, LIMIT};
-ghost use Rattle.line.specs.Cell.{line_losses, place, Limited};
-ghost use Rattle.state.specs.Places.{more};
+ghost use Rattle.line.specs.Cell.{Limited};
 ghost use Rattle.day_file.specs.Form.{LINE, u8, u16, u32};
-ghost use Rattle.file_lines.specs.Pieces.{line_so_far, is_added, user_refusal};
+ghost use Rattle.file_lines.specs.Pieces.{user_refusal, joined, line_refusal, lined, nothing_entered};
 
 use day_file::{COEFFICIENT, CONSUMPTION, LINE};
 use line::cells;
@@ -27,48 +26,64 @@ pub fn read_line(file: &[u8], at: usize, user: u16) -> LineEntry
     }
 }
 
-// A line of the user of a slot; the answer is all consumption and losses with it.
-pub fn enter_line(
-    entry: LineEntry,
-    slot: usize,
-    offtake: u64,
-    consumption: &mut [i64; CELLS],
-    losses: &mut [i64; CELLS],
-) -> Result<u64, Refusal>
-    requires { (slot < USERS) × (offtake ≤ LIMIT) × Limited consumption.old × Limited losses.old }
-    ensures value { result ≡ line_so_far entry.user entry.kind entry.consumption entry.coefficient offtake }
-    ensures consumption_after { consumption.new ≡ pick (is_added entry.user entry.kind entry.consumption entry.coefficient offtake)
-        (more (place slot entry.kind) entry.consumption consumption.old) consumption.old }
-    ensures losses_after { losses.new ≡ pick (is_added entry.user entry.kind entry.consumption entry.coefficient offtake)
-        (more (place slot entry.kind) (line_losses entry.consumption entry.coefficient) losses.old) losses.old }
-{
-    if !entry.is_right() {
-        return Err(Refusal::OutOfRange);
-    }
-    let added = cells::line_cell(consumption, losses, slot, entry, offtake)?;
-    Ok(offtake + (entry.consumption + added))
+// The arrays of a point-day that a day file enters: its users' numbers, their consumption and losses by slot and kind, and the sum of both.
+#[derive(Drop)]
+pub struct Entering {
+    pub users: [u16; USERS],
+    pub consumption: [i64; CELLS],
+    pub losses: [i64; CELLS],
+    pub offtake: u64,
 }
 
-// A user joins in a slot, if fewer than `limit` have joined.
-pub fn enter_user(
-    users: &mut [u16; USERS],
-    slot: usize,
-    limit: usize,
-    user: u16,
-) -> Result<(), Refusal>
-    requires { (slot ≤ limit) × (limit ≤ USERS) }
-    ensures value { status_of result ≡ user_refusal limit user slot users.old }
-    ensures users_after { users.new ≡ pick (eqb (status_of result) 0) (set users.old slot user) users.old }
-{
-    if user == 0 {
-        return Err(Refusal::OutOfRange);
+impl Entering {
+    // No user.
+    pub fn new() -> Entering
+        ensures { result ≡ nothing_entered }
+    {
+        Entering {
+            users: numbers::repeat(0),
+            consumption: numbers::repeat(0),
+            losses: numbers::repeat(0),
+            offtake: 0,
+        }
     }
-    if state::slot_of(&users[..slot], user).is_some() {
-        return Err(Refusal::AlreadyJoined);
+
+    // A user joins in a slot, if fewer than `limit` have joined.
+    pub fn join(&mut self, slot: usize, limit: usize, user: u16) -> Result<(), Refusal>
+        requires { (slot ≤ limit) × (limit ≤ USERS) }
+        ensures value { status_of result ≡ user_refusal limit user slot self.old.users }
+        ensures after { self.new ≡ pick (eqb (status_of result) 0) (joined slot user self.old) self.old }
+    {
+        if user == 0 {
+            return Err(Refusal::OutOfRange);
+        }
+        if state::slot_of(&self.users[..slot], user).is_some() {
+            return Err(Refusal::AlreadyJoined);
+        }
+        if limit <= slot {
+            return Err(Refusal::AllJoined);
+        }
+        self.users[slot] = user;
+        Ok(())
     }
-    if limit <= slot {
-        return Err(Refusal::AllJoined);
+
+    // A line of the user of a slot.
+    pub fn line(&mut self, slot: usize, entry: LineEntry) -> Result<(), Refusal>
+        requires { (slot < USERS) × (self.old.offtake ≤ LIMIT) × Limited self.old.consumption × Limited self.old.losses }
+        ensures value { status_of result ≡ line_refusal entry self.old.offtake }
+        ensures after { self.new ≡ pick (eqb (status_of result) 0) (lined slot entry self.old) self.old }
+    {
+        if !entry.is_right() {
+            return Err(Refusal::OutOfRange);
+        }
+        let added = cells::line_cell(
+            &mut self.consumption,
+            &mut self.losses,
+            slot,
+            entry,
+            self.offtake,
+        )?;
+        self.offtake += entry.consumption + added;
+        Ok(())
     }
-    users[slot] = user;
-    Ok(())
 }

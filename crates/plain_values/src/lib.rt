@@ -19,6 +19,7 @@ pub fn amount_in(list: &[u64]) -> Option<u64>
     }
 }
 
+// Tolls and the kinds of entries go by numbers, as C callers give them: one that has no meaning is to be refused by the call.
 fn toll_in(number: u8) -> Toll
     ensures { result ≡ toll_in number }
 {

@@ -16,23 +16,56 @@ pub fn weight_total(ws: &[u64]) -> u64
     ws.iter().sum()
 }
 
-// Whether the remainder r of key k is served before s of key l.
-pub fn goes_before(r: u64, k: u64, s: u64, l: u64) -> bool
-    ensures { result ≡ ahead r k s l }
-{
-    if k < l { s <= r } else { s < r }
+// A party that waits for a unit: its remainder, and its key, which tells equal remainders apart.
+#[derive(Clone, Copy)]
+pub struct Party {
+    pub rem: u64,
+    pub key: u64,
 }
 
-// How many parties are served before the remainder x of key y.
-pub fn count_ahead(rems: &[u64], keys: &[u64], x: u64, y: u64) -> u64
-    requires { length rems.now ≤ length keys.now }
-    ensures { result ≡ before (at rems.now) (at keys.now) (length rems.now) x y }
-{
-    let mut count: u64 = 0;
-    for j in 0..rems.len() {
-        count += u64::from(goes_before(rems[j], keys[j], x, y));
+impl Party {
+    // Whether it is served before the other.
+    pub fn goes_before(self, other: Party) -> bool
+        ensures { result ≡ ahead self.rem self.key other.rem other.key }
+    {
+        if self.key < other.key {
+            other.rem <= self.rem
+        } else {
+            other.rem < self.rem
+        }
     }
-    count
+}
+
+// The parties that wait for a unit.
+#[derive(Clone, Copy)]
+pub struct Parties<'a> {
+    pub rems: &'a [u64],
+    pub keys: &'a [u64],
+    pub ghost keyed: { length rems.now ≤ length keys.now },
+}
+
+impl<'a> Parties<'a> {
+    // The party at a place.
+    pub fn at(&self, i: usize) -> Party
+        requires { i < length self.now.rems.now }
+        ensures { (result.rem ≡ at self.now.rems.now i) × (result.key ≡ at self.now.keys.now i) }
+    {
+        Party {
+            rem: self.rems[i],
+            key: self.keys[i],
+        }
+    }
+
+    // How many parties are served before this one.
+    pub fn count_ahead(&self, party: Party) -> u64
+        ensures { result ≡ before (at self.now.rems.now) (at self.now.keys.now) (length self.now.rems.now) party.rem party.key }
+    {
+        let mut count: u64 = 0;
+        for j in 0..self.rems.len() {
+            count += u64::from(self.at(j).goes_before(party));
+        }
+        count
+    }
 }
 
 // The whole units of each party, and its remainder; returns the sum of the whole units.

@@ -2,26 +2,26 @@
 ghost use Rattle.std.specs.Prelude.{◌≡◌, ◌+◌, ◌*◌, ◌≤◌, ◌<◌, length};
 ghost use Rattle.point_day.specs.Limits.{USERS, CELLS};
 ghost use Rattle.state.specs.Places.{Small};
-ghost use Rattle.wire.specs.Text.{written};
+ghost use Rattle.wire.specs.Text.{Added};
 ghost use Rattle.day_file.specs.Text.{text_line};
 ghost use Rattle.report.specs.Lines.{NUMBER, LONGEST_LINE, of_slot, slot_line};
 
 use point_day::{CELLS, KINDS, USERS};
+use wire::TextBuffer;
 
 // A line: a word, numbers, each after a space, and a line feed.
-pub fn put_line(out: &mut [u8], i: usize, word: &[u8], numbers: &[i64]) -> usize
-    requires { i + length word.now + NUMBER * length numbers.now + 1 ≤ length out.old }
-    ensures value { result ≡ i + length (text_line word.now numbers.now) }
-    ensures bound { result ≤ i + length word.now + NUMBER * length numbers.now + 1 }
-    ensures out_after { out.new ≡ written out.old i (text_line word.now numbers.now) }
+pub fn put_line(text: &mut TextBuffer, word: &[u8], numbers: &[i64])
+    requires { text.old.len + length word.now + NUMBER * length numbers.now + 1 ≤ length text.old.buffer.now }
+    ensures same_reference { text.new.buffer.ghost_name ≡ text.old.buffer.ghost_name }
+    ensures added { Added text.old.buffer.now text.old.len (text_line word.now numbers.now) text.new.buffer.now text.new.len }
+    ensures bound { text.new.len ≤ text.old.len + length word.now + NUMBER * length numbers.now + 1 }
 {
-    let mut at = wire::put_text(out, i, word);
+    text.push(word);
     for &number in numbers {
-        out[at] = b' ';
-        at = wire::put_decimal(out, at + 1, number);
+        text.push(b" ");
+        text.push_decimal(number);
     }
-    out[at] = b'\n';
-    at + 1
+    text.push(b"\n");
 }
 
 // A slot's amounts over all kinds.
@@ -48,15 +48,16 @@ pub struct Slots<'a> {
 
 impl Slots<'_> {
     // The line of the user of a slot, whose balance over all kinds is its share.
-    pub fn put_user(&self, out: &mut [u8], i: usize, slot: usize) -> usize
-        requires { (slot < USERS) × (i + LONGEST_LINE ≤ length out.old) }
-        ensures value { (result ≡ i + length (slot_line self.now.users.now self.now.consumption.now self.now.losses.now self.now.shares.now slot)) × (result ≤ i + LONGEST_LINE) }
-        ensures out_after { out.new ≡ written out.old i (slot_line self.now.users.now self.now.consumption.now self.now.losses.now self.now.shares.now slot) }
+    pub fn put_user(&self, text: &mut TextBuffer, slot: usize)
+        requires { (slot < USERS) × (text.old.len + LONGEST_LINE ≤ length text.old.buffer.now) }
+        ensures same_reference { text.new.buffer.ghost_name ≡ text.old.buffer.ghost_name }
+        ensures added { Added text.old.buffer.now text.old.len (slot_line self.now.users.now self.now.consumption.now self.now.losses.now self.now.shares.now slot) text.new.buffer.now text.new.len }
+        ensures bound { text.new.len ≤ text.old.len + LONGEST_LINE }
     {
         let c = of_slot(self.consumption, slot);
         let l = of_slot(self.losses, slot);
         let share = self.shares[slot];
         let number = i64::from(self.users[slot]);
-        put_line(out, i, b"user", &[number, c, l, share, c + l + share])
+        put_line(text, b"user", &[number, c, l, share, c + l + share]);
     }
 }

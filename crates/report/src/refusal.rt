@@ -8,12 +8,15 @@ ghost use Rattle.report.specs.Room.{REPORT_ROOM};
 
 use super::lines;
 use numbers::Refusal;
+use wire::TextBuffer;
 
-// The text of a refusal.
+// The text of a refusal, in a lent buffer; the answer is how many bytes it has.
 pub fn put_refused(out: &mut [u8], refusal: Refusal) -> usize
     requires { REPORT_ROOM ≤ length out.old }
     ensures value { result ≡ length (text (refused (number_of refusal))) }
     ensures out_after { out.new ≡ written out.old 0 (text (refused (number_of refusal))) }
 {
-    lines::put_line(out, 0, b"refused", &[i64::from(u8::from(refusal))])
+    let mut text = TextBuffer::new(out);
+    lines::put_line(&mut text, b"refused", &[i64::from(u8::from(refusal))]);
+    text.len
 }

@@ -2,9 +2,9 @@
 use Rattle.std.specs.Prelude.{Result, Ok, Err, List, [], ◌∷◌, ℕ, ℤ, nat_abs}
 use Rattle.numbers.specs.declared.Refusal.{Refusal}
 use Rattle.calendar.specs.Answers.{Answer, refused, given}
-use Rattle.months.specs.WorkingDays.{MonthFigures}
+use Rattle.months.specs.declared.MonthFigures.{MonthFigures}
 use Rattle.zones.specs.declared.Province.{Province}
-use Rattle.telemetered.specs.Telemetered.{Estimate}
+use Rattle.telemetered.specs.declared.Estimate.{Estimate}
 use Rattle.calendar.specs.declared.DayType.{DayType}
 use Rattle.calendar.specs.declared.DayType.TheVariants.{Working, Saturday, SundayOrHoliday}
 

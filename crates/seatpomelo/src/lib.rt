@@ -1,4 +1,4 @@
-// The calls for programs in other languages, on numbers and lists that the caller lends; `seatpomelo_c` exports them.
+// The calls for programs in other languages, on numbers and lists that the caller lends, as C has them; `seatpomelo_c` exports them.
 #![tactic(auto)]
 
 ghost use Rattle.std.specs.Prelude.{◌≡◌, [], ◌∷◌, length, pos};
@@ -23,8 +23,9 @@ ghost use Rattle.split.specs.Call.{answer, after};
 ghost use Rattle.spread.specs.Spread.{spread, number_of};
 ghost use Rattle.day_report.specs.Answered.{report_call, buffer_after, size_of};
 ghost use Rattle.seatpomelo.specs.Settled.{settled, settles, value_or, number, size, type_number, month_numbers, province_numbers, estimate_numbers};
-ghost use Rattle.plain_values.specs.Lists.{amount_in, own_of, flows_in, entries_in, entry_count};
+ghost use Rattle.plain_values.specs.Lists.{amount_in, flows_in, entries_in, entry_count};
 
+use calendar::DayType;
 use history::ENTRIES;
 use line::cells::LineEntry;
 use numbers::Refusal;
@@ -53,7 +54,7 @@ fn settle(answer: Result<u64, Refusal>, out: &mut u64) -> u8
             *out = value;
             0
         }
-        Err(refusal) => u8::from(refusal),
+        Err(refusal) => status(Err(refusal)),
     }
 }
 
@@ -62,6 +63,13 @@ fn settle_count(answer: Result<usize, Refusal>, out: &mut u64) -> u8
     ensures { (result ≡ status_of answer) × (out.new ≡ value_or answer out.old) }
 {
     settle(answer.map(|count| count as u64), out)
+}
+
+// A day type's number.
+fn type_number(day_type: DayType) -> u64
+    ensures { result ∷ [] ≡ type_number day_type }
+{
+    day_type as u64
 }
 
 // ---- The point-day, in plain numbers that the caller lends, in place
@@ -163,7 +171,7 @@ pub fn seatpomelo_revise(day: &mut [i64], within: &mut u64, amount: &mut i64) ->
             *amount = outstanding;
             0
         }
-        Err(refusal) => u8::from(refusal),
+        Err(refusal) => status(Err(refusal)),
     }
 }
 
@@ -189,10 +197,13 @@ pub fn seatpomelo_inventory<'a>(day: &'a [i64], out: &mut [i64], rows: &mut u64)
 pub fn seatpomelo_day_type(day: u32, holidays: &[u32], day_type: &mut u64) -> u8
     ensures { settled result (day_type.new ∷ []) ≡ settles type_number (type_call day holidays.now) (day_type.old ∷ []) }
 {
-    settle(
-        calendar::day_type(day, holidays).map(|found| found as u64),
-        day_type,
-    )
+    match calendar::day_type(day, holidays) {
+        Ok(found) => {
+            *day_type = type_number(found);
+            0
+        }
+        Err(refusal) => status(Err(refusal)),
+    }
 }
 
 // The month of a gas day: its first day, its days, the mask of its working days and how many they are.
@@ -214,7 +225,7 @@ pub fn seatpomelo_month(
             *working = u64::from(month.working);
             0
         }
-        Err(refusal) => u8::from(refusal),
+        Err(refusal) => status(Err(refusal)),
     }
 }
 
@@ -235,10 +246,10 @@ pub fn seatpomelo_telemetered(
     consumption: &mut u64,
     looked_at: &mut u64,
 ) -> u8
-    ensures { settled result (consumption.new ∷ looked_at.new ∷ []) ≡ settles estimate_numbers (telemetered day holidays.now (amount_in reading.now) (own_of (amount_in own.now)) (flows_in toll yearly.now daily.now factor) (entry_count tags.now values.now) (entries_in tags.now values.now)) (consumption.old ∷ looked_at.old ∷ []) }
+    ensures { settled result (consumption.new ∷ looked_at.new ∷ []) ≡ settles estimate_numbers (telemetered day holidays.now (amount_in reading.now) (amount_in own.now) (flows_in toll yearly.now daily.now factor) (entry_count tags.now values.now) (entries_in tags.now values.now)) (consumption.old ∷ looked_at.old ∷ []) }
 {
     if tags.len() != values.len() || ENTRIES < tags.len() {
-        return u8::from(Refusal::OutOfRange);
+        return status(Err(Refusal::OutOfRange));
     }
     let answer = telemetered::telemetered(
         day,
@@ -255,7 +266,7 @@ pub fn seatpomelo_telemetered(
             *looked_at = estimate.looked as u64;
             0
         }
-        Err(refusal) => u8::from(refusal),
+        Err(refusal) => status(Err(refusal)),
     }
 }
 
@@ -279,7 +290,7 @@ pub fn seatpomelo_type_1_toll_34(
         last_month: plain_values::amount_in(last_month),
         year_flow: plain_values::amount_in(yearly),
     };
-    settle(type_1::toll_34(point), consumption)
+    settle(type_1::toll_34(&point), consumption)
 }
 
 // Type 1, another toll.
@@ -306,7 +317,7 @@ pub fn seatpomelo_type_1_other_toll(
         f_c,
         c_f,
     };
-    settle(type_1::other_toll(point), consumption)
+    settle(type_1::other_toll(&point), consumption)
 }
 
 // Type 2, with the degree days of one winter or of two.
@@ -378,7 +389,7 @@ pub fn seatpomelo_province(number: u32, value: &mut u64, zone: &mut u64) -> u8
             *zone = u64::from(province.zone);
             0
         }
-        Err(refusal) => u8::from(refusal),
+        Err(refusal) => status(Err(refusal)),
     }
 }
 

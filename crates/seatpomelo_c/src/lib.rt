@@ -1,4 +1,5 @@
 // The calls of `seatpomelo` as programs in C and other languages have them: each export calls the function of its name, and promises the same.
+// (They stand twice, since no crate can depend on a static library, and `boundary` speaks of these functions.)
 #![tactic(auto)]
 
 ghost use Rattle.std.specs.Prelude.{◌≡◌, [], ◌∷◌, length, pos};
@@ -22,7 +23,7 @@ ghost use Rattle.split.specs.Call.{answer, after};
 ghost use Rattle.spread.specs.Spread.{spread, number_of};
 ghost use Rattle.day_report.specs.Answered.{report_call, buffer_after, size_of};
 ghost use Rattle.seatpomelo.specs.Settled.{settled, settles, number, size, type_number, month_numbers, province_numbers, estimate_numbers};
-ghost use Rattle.plain_values.specs.Lists.{amount_in, own_of, flows_in, entries_in, entry_count};
+ghost use Rattle.plain_values.specs.Lists.{amount_in, flows_in, entries_in, entry_count};
 
 // ---- The point-day, in plain numbers that the caller lends, in place
 
@@ -180,7 +181,7 @@ pub extern "C" fn seatpomelo_telemetered(
     consumption: &mut u64,
     looked_at: &mut u64,
 ) -> u8
-    ensures { settled result (consumption.new ∷ looked_at.new ∷ []) ≡ settles estimate_numbers (telemetered day holidays.now (amount_in reading.now) (own_of (amount_in own.now)) (flows_in toll yearly.now daily.now factor) (entry_count tags.now values.now) (entries_in tags.now values.now)) (consumption.old ∷ looked_at.old ∷ []) }
+    ensures { settled result (consumption.new ∷ looked_at.new ∷ []) ≡ settles estimate_numbers (telemetered day holidays.now (amount_in reading.now) (amount_in own.now) (flows_in toll yearly.now daily.now factor) (entry_count tags.now values.now) (entries_in tags.now values.now)) (consumption.old ∷ looked_at.old ∷ []) }
 {
     seatpomelo::seatpomelo_telemetered(
         day,

@@ -4,6 +4,7 @@ ghost use Rattle.numbers.specs.Sums.{total, Bounded};
 ghost use Rattle.proration.specs.Proration.{PARTIES, LARGEST_AMOUNT, LARGEST_WEIGHT, split, prorate};
 
 use super::leftover;
+use proration::Parties;
 
 // The shares of the amount over weights whose sum, `weight_sum`, is above 0; `rems` is scratch.
 fn split(
@@ -19,7 +20,7 @@ fn split(
     ensures { shares.new ≡ split amount ws.now keys.now ++ drop (length ws.now) shares.old }
 {
     let given = proration::floors(amount, ws, weight_sum, shares, rems);
-    leftover::serve(rems, keys, amount - given, shares);
+    leftover::serve(&Parties { rems, keys }, amount - given, shares);
 }
 
 // The shares of the amount over weights whose sum, `weight_sum`, is above 0.

@@ -4,17 +4,20 @@ ghost use Rattle.numbers.specs.Sums.{table, at};
 ghost use Rattle.proration.specs.Proration.{LARGEST_AMOUNT, topped};
 ghost use Rattle.split.specs.Cut.{cut_at};
 
+use proration::{Parties, Party};
+use std::cmp::Ordering;
+
 // Up to so many parties count as few: they need only a small scratch buffer, and ties among them are ranked by counting.
 pub const FEW: usize = 8;
 
 // One unit more to each party with fewer than `left` before it, by counting for each.
-fn serve_ranked(rems: &[u64], keys: &[u64], left: u64, shares: &mut [u64])
-    requires rems_in_bounds { (length rems.now ≤ length keys.now) × (length rems.now ≤ length shares.old) }
-    requires by_index { (i : ℕ) → i < length rems.now → at shares.old i ≤ LARGEST_AMOUNT }
-    ensures { shares.new ≡ table (topped (at shares.old) (at rems.now) (at keys.now) left (length rems.now)) (length rems.now) ++ drop (length rems.now) shares.old }
+fn serve_ranked(parties: &Parties, left: u64, shares: &mut [u64])
+    requires room { length parties.now.rems.now ≤ length shares.old }
+    requires by_index { (i : ℕ) → i < length parties.now.rems.now → at shares.old i ≤ LARGEST_AMOUNT }
+    ensures { shares.new ≡ table (topped (at shares.old) (at parties.now.rems.now) (at parties.now.keys.now) left (length parties.now.rems.now)) (length parties.now.rems.now) ++ drop (length parties.now.rems.now) shares.old }
 {
-    for i in 0..rems.len() {
-        let ahead = proration::count_ahead(rems, keys, rems[i], keys[i]);
+    for i in 0..parties.rems.len() {
+        let ahead = parties.count_ahead(parties.at(i));
         shares[i] += u64::from(ahead < left);
     }
 }
@@ -29,12 +32,12 @@ fn is_less(a: u64, b: u64) -> u64
     a.wrapping_sub(b) >> 63
 }
 
-// 1 if the remainder r is x and its key k is below y, else 0.
-fn is_tied(r: u64, k: u64, x: u64, y: u64) -> u64
+// 1 if the party has the cut's remainder and a key below the cut's, else 0.
+fn is_tied(party: Party, cut: Party) -> u64
     ensures { result ≤ 1 }
 {
-    let same = (r ^ x).wrapping_sub(1);
-    (same & k.wrapping_sub(y)) >> 63
+    let same = (party.rem ^ cut.rem).wrapping_sub(1);
+    (same & party.key.wrapping_sub(cut.key)) >> 63
 }
 
 // How many remainders are above x.
@@ -48,16 +51,32 @@ fn count_above(rems: &[u64], x: u64) -> u64
     count
 }
 
-// How many parties of the remainder x have a key below y.
-fn count_tied(rems: &[u64], keys: &[u64], x: u64, y: u64) -> u64
-    requires { length rems.now ≤ length keys.now }
-    ensures { result ≤ length rems.now }
+// How many parties have the cut's remainder and a key below the cut's.
+fn count_tied(parties: &Parties, cut: Party) -> u64
+    ensures { result ≤ length parties.now.rems.now }
 {
     let mut count: u64 = 0;
-    for j in 0..rems.len() {
-        count += is_tied(rems[j], keys[j], x, y);
+    for j in 0..parties.rems.len() {
+        count += is_tied(parties.at(j), cut);
     }
     count
+}
+
+// A number from `low` to `high` that compares as equal, by halving; where none does, the one at which the answer turns.
+fn halve<F: Fn(u64) -> Ordering>(low: u64, high: u64, compare: F) -> u64
+    requires { F.IsAlwaysCallable compare }
+{
+    let mut low = low;
+    let mut high = high;
+    while low < high {
+        let middle = low + (high - low) / 2;
+        match compare(middle) {
+            Ordering::Equal => return middle,
+            Ordering::Less => low = middle + 1,
+            Ordering::Greater => high = middle,
+        }
+    }
+    low
 }
 
 // A remainder with `left` remainders above it, by trying each; where equal remainders stand at that place, 0.
@@ -68,32 +87,18 @@ fn cut_of_few(rems: &[u64], left: u64) -> u64 {
         .unwrap_or(0)
 }
 
-// A number with `left` remainders above it, by halving; where equal remainders stand at that place, these.
+// A number with `left` remainders above it; where equal remainders stand at that place, these.
 fn cut_of_many(rems: &[u64], left: u64) -> u64 {
-    let mut low = rems.iter().copied().fold(u64::MAX, u64::min);
-    let mut high = rems.iter().copied().fold(0, u64::max);
-    while low < high {
-        let middle = low + (high - low) / 2;
-        let above = count_above(rems, middle);
-        if above == left {
-            return middle;
-        }
-        if above < left {
-            high = middle;
-        } else {
-            low = middle + 1;
-        }
-    }
-    low
+    let least = rems.iter().copied().fold(u64::MAX, u64::min);
+    let largest = rems.iter().copied().fold(0, u64::max);
+    halve(least, largest, |x| left.cmp(&count_above(rems, x)))
 }
 
 // The key of the party of the remainder x that has `nth` of that remainder before it by their places; the largest number if there is
 // none.
-fn key_by_place(rems: &[u64], keys: &[u64], x: u64, nth: u64) -> u64
-    requires { length rems.now ≤ length keys.now }
-{
+fn key_by_place(parties: &Parties, x: u64, nth: u64) -> u64 {
     let mut more = nth;
-    for (&r, &key) in rems.iter().zip(keys) {
+    for (&r, &key) in parties.rems.iter().zip(parties.keys) {
         if r == x {
             if more == 0 {
                 return key;
@@ -105,93 +110,85 @@ fn key_by_place(rems: &[u64], keys: &[u64], x: u64, nth: u64) -> u64
 }
 
 // A key with `nth` parties of the remainder x before it, by halving.
-fn key_by_halving(rems: &[u64], keys: &[u64], x: u64, nth: u64) -> u64
-    requires { length rems.now ≤ length keys.now }
-{
-    let mut low: u64 = 0;
-    let mut high = keys.iter().copied().fold(0, u64::max);
-    while low < high {
-        let middle = low + (high - low) / 2;
-        let ahead = count_tied(rems, keys, x, middle);
-        if ahead == nth {
-            return middle;
-        }
-        if nth < ahead {
-            high = middle;
-        } else {
-            low = middle + 1;
-        }
-    }
-    low
+fn key_by_halving(parties: &Parties, x: u64, nth: u64) -> u64 {
+    let largest = parties.keys.iter().copied().fold(0, u64::max);
+    halve(0, largest, |key| {
+        count_tied(parties, Party { rem: x, key }).cmp(&nth)
+    })
 }
 
 // A key with `left` parties before it at the remainder x: by place, where keys rise; else by halving.
-fn cut_key(rems: &[u64], keys: &[u64], x: u64, left: u64) -> u64
-    requires { length rems.now ≤ length keys.now }
-{
-    let nth = left.wrapping_sub(count_above(rems, x));
-    let key = key_by_place(rems, keys, x, nth);
-    if count_tied(rems, keys, x, key) == nth {
+fn cut_key(parties: &Parties, x: u64, left: u64) -> u64 {
+    let nth = left.wrapping_sub(count_above(parties.rems, x));
+    let key = key_by_place(parties, x, nth);
+    if count_tied(parties, Party { rem: x, key }) == nth {
         return key;
     }
-    key_by_halving(rems, keys, x, nth)
+    key_by_halving(parties, x, nth)
 }
 
-// One unit more to each party that is served before the remainder x of key y.
-fn serve_ahead(rems: &[u64], keys: &[u64], x: u64, y: u64, shares: &mut [u64])
-    requires rems_in_bounds { (length rems.now ≤ length keys.now) × (length rems.now ≤ length shares.old) }
-    requires by_index { (i : ℕ) → i < length rems.now → at shares.old i ≤ LARGEST_AMOUNT }
-    ensures { shares.new ≡ table (cut_at (at shares.old) (at rems.now) (at keys.now) x y) (length rems.now) ++ drop (length rems.now) shares.old }
+// One unit more to each party that is served before the cut. (A loop beside the one of `serve_ranked`: one loop for both would take the
+// test as a closure, and the clauses on its calls are longer than the loops.)
+fn serve_ahead(parties: &Parties, cut: Party, shares: &mut [u64])
+    requires room { length parties.now.rems.now ≤ length shares.old }
+    requires by_index { (i : ℕ) → i < length parties.now.rems.now → at shares.old i ≤ LARGEST_AMOUNT }
+    ensures { shares.new ≡ table (cut_at (at shares.old) (at parties.now.rems.now) (at parties.now.keys.now) cut.rem cut.key) (length parties.now.rems.now) ++ drop (length parties.now.rems.now) shares.old }
 {
-    for i in 0..rems.len() {
-        shares[i] += u64::from(proration::goes_before(rems[i], keys[i], x, y));
+    for i in 0..parties.rems.len() {
+        shares[i] += u64::from(parties.at(i).goes_before(cut));
     }
 }
 
 // One unit more to each party with fewer than `left` before it, where the cut falls among many parties of the remainder x. A cut
 // with exactly `left` parties before it tells who is served: one count certifies it, and if it fails, each party's rank is counted.
-fn serve_tied(rems: &[u64], keys: &[u64], x: u64, left: u64, shares: &mut [u64])
-    requires rems_in_bounds { (length rems.now ≤ length keys.now) × (length rems.now ≤ length shares.old) }
-    requires by_index { (i : ℕ) → i < length rems.now → at shares.old i ≤ LARGEST_AMOUNT }
-    ensures { shares.new ≡ table (topped (at shares.old) (at rems.now) (at keys.now) left (length rems.now)) (length rems.now) ++ drop (length rems.now) shares.old }
+fn serve_tied(parties: &Parties, x: u64, left: u64, shares: &mut [u64])
+    requires room { length parties.now.rems.now ≤ length shares.old }
+    requires by_index { (i : ℕ) → i < length parties.now.rems.now → at shares.old i ≤ LARGEST_AMOUNT }
+    ensures { shares.new ≡ table (topped (at shares.old) (at parties.now.rems.now) (at parties.now.keys.now) left (length parties.now.rems.now)) (length parties.now.rems.now) ++ drop (length parties.now.rems.now) shares.old }
 {
-    let y = cut_key(rems, keys, x, left);
-    if proration::count_ahead(rems, keys, x, y) == left {
-        serve_ahead(rems, keys, x, y, shares);
+    let tie = Party {
+        rem: x,
+        key: cut_key(parties, x, left),
+    };
+    if parties.count_ahead(tie) == left {
+        serve_ahead(parties, tie, shares);
     } else {
-        serve_ranked(rems, keys, left, shares);
+        serve_ranked(parties, left, shares);
     }
 }
 
 // One unit more to each party with fewer than `left` before it, through the cut x among the remainders if it tells them apart.
-fn serve_cut(rems: &[u64], keys: &[u64], x: u64, left: u64, shares: &mut [u64])
-    requires rems_in_bounds { (length rems.now ≤ length keys.now) × (length rems.now ≤ length shares.old) }
-    requires by_index { (i : ℕ) → i < length rems.now → at shares.old i ≤ LARGEST_AMOUNT }
-    ensures { shares.new ≡ table (topped (at shares.old) (at rems.now) (at keys.now) left (length rems.now)) (length rems.now) ++ drop (length rems.now) shares.old }
+fn serve_cut(parties: &Parties, x: u64, left: u64, shares: &mut [u64])
+    requires room { length parties.now.rems.now ≤ length shares.old }
+    requires by_index { (i : ℕ) → i < length parties.now.rems.now → at shares.old i ≤ LARGEST_AMOUNT }
+    ensures { shares.new ≡ table (topped (at shares.old) (at parties.now.rems.now) (at parties.now.keys.now) left (length parties.now.rems.now)) (length parties.now.rems.now) ++ drop (length parties.now.rems.now) shares.old }
 {
-    if proration::count_ahead(rems, keys, x, 0) == left {
-        serve_ahead(rems, keys, x, 0, shares);
+    let cut = Party { rem: x, key: 0 };
+    if parties.count_ahead(cut) == left {
+        serve_ahead(parties, cut, shares);
         return;
     }
-    if rems.len() <= FEW {
-        serve_ranked(rems, keys, left, shares);
+    if parties.rems.len() <= FEW {
+        serve_ranked(parties, left, shares);
     } else {
-        serve_tied(rems, keys, x, left, shares);
+        serve_tied(parties, x, left, shares);
     }
 }
 
 // One unit more to each party with fewer than `left` before it.
-pub fn serve(rems: &[u64], keys: &[u64], left: u64, shares: &mut [u64])
-    requires rems_in_bounds { (length rems.now ≤ length keys.now) × (length rems.now ≤ length shares.old) }
-    requires by_index { (i : ℕ) → i < length rems.now → at shares.old i ≤ LARGEST_AMOUNT }
-    ensures { shares.new ≡ table (topped (at shares.old) (at rems.now) (at keys.now) left (length rems.now)) (length rems.now) ++ drop (length rems.now) shares.old }
+pub fn serve(parties: &Parties, left: u64, shares: &mut [u64])
+    requires room { length parties.now.rems.now ≤ length shares.old }
+    requires by_index { (i : ℕ) → i < length parties.now.rems.now → at shares.old i ≤ LARGEST_AMOUNT }
+    ensures { shares.new ≡ table (topped (at shares.old) (at parties.now.rems.now) (at parties.now.keys.now) left (length parties.now.rems.now)) (length parties.now.rems.now) ++ drop (length parties.now.rems.now) shares.old }
 {
     if left == 0 {
         return;
     }
-    if rems.len() <= FEW {
-        serve_cut(rems, keys, cut_of_few(rems, left), left, shares);
+    let rems = parties.rems;
+    let x = if rems.len() <= FEW {
+        cut_of_few(rems, left)
     } else {
-        serve_cut(rems, keys, cut_of_many(rems, left), left, shares);
-    }
+        cut_of_many(rems, left)
+    };
+    serve_cut(parties, x, left, shares);
 }

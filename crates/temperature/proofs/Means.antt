@@ -26,6 +26,9 @@ pub winter_month : (ds : List ℕ) → winter_right ds ≡ true → Month ds
 unfolding winter_right
 winter_month ds e = grind (arith, common_steps)
 
+pub winter_range : (ds : List ℕ) → winter_right ds ≡ true → every is_degrees ds ≡ true
+winter_range ds e = (winter_month ds e).range
+
 pub month_mean : (ds : List ℕ) → Month ds → MonthMean (mean ds)
 unfolding mean
 month_mean ds m = record { top = omega (arith, total_most MOST_DEGREES ds m.range, m.most); bottom = m.most }
@@ -59,4 +62,4 @@ module _ (k : ℕ) (first second : List ℕ) (h : winters_right k first second �
             bottom = omega (arith, bottoms (month_mean first a) (month_mean second b));
           })
 
-pub ruleset winter_means = (some_winter, second_winter, month_mean)
+pub ruleset winter_means = (winter_month, winter_range, month_mean)

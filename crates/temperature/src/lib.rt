@@ -1,10 +1,12 @@
 // Temperature coefficients as exact fractions, and the means of months and winters that they are made of.
 #![tactic(auto)]
 
-ghost use Rattle.std.specs.Prelude.{◌≡◌, true, false, ◌≤◌, length, IfOk, IfErr};
+ghost use Rattle.std.specs.Prelude.{◌≡◌, true, false, ◌≤◌, length, IfOk, IfErr, IfSome};
 ghost use Rattle.numbers.specs.declared.Refusal.TheVariants.{OutOfRange};
 ghost use Rattle.numbers.specs.Lists.{every};
 ghost use Rattle.temperature.specs.Temperature.{MOST_DEGREES, correction, Sound, MonthMean, sum, divided, MOST_DAYS, is_degrees, mean, winters_mean, winter_right, winters_right};
+ghost use Rattle.temperature.specs.Means.{average};
+ghost use Rattle.std.proofs.Props.{props};
 
 use numbers::Refusal;
 
@@ -68,7 +70,8 @@ pub fn are_all_degrees(days: &[u32]) -> bool
 // The mean of the degree days of a month.
 #[tactic(auto, using(crate::proofs::Chains::total_is_sum), unfolding(crate::specs::Temperature::mean))]
 pub fn mean_of(days: &[u32]) -> Fraction
-    requires { (length days.now ≤ MOST_DAYS) × (every is_degrees days.now ≡ true) }
+    requires a_month { length days.now ≤ MOST_DAYS }
+    requires degrees_in_range { every is_degrees days.now ≡ true }
     ensures { result ≡ mean days.now }
 {
     Fraction {
@@ -82,56 +85,45 @@ pub fn mean_of(days: &[u32]) -> Fraction
 fn is_winter(days: &[u32]) -> bool
     ensures { result ≡ winter_right days.now }
 {
-    FEWEST_DAYS as usize <= days.len() && days.len() <= MOST_DAYS as usize && are_all_degrees(days)
+    (FEWEST_DAYS as usize..=MOST_DAYS as usize).contains(&days.len()) && are_all_degrees(days)
 }
 
-// One or two winters, as stated. (The second is looked at if there are two.)
+// One winter's degree days or two winters', as stated.
 #[derive(Clone, Copy)]
 pub struct Winters<'a> {
-    pub count: u8,
     pub first: &'a [u32],
-    pub second: &'a [u32],
-    ghost right: { winters_right count first.now second.now ≡ true },
-}
-
-// Whether one or two winters are as stated.
-#[tactic(auto, unfolding(crate::specs::Temperature::winters_right))]
-fn are_winters(count: u8, first: &[u32], second: &[u32]) -> bool
-    ensures { result ≡ winters_right count first.now second.now }
-{
-    match count {
-        1 => is_winter(first),
-        2 => is_winter(first) && is_winter(second),
-        _ => false,
-    }
+    pub second: Option<&'a [u32]>,
+    ghost first_right: { winter_right first.now ≡ true },
+    ghost second_right: { IfSome second (λ s. winter_right s.now ≡ true) } by { Prim.hlevel props },
 }
 
 impl<'a> Winters<'a> {
-    // One or two winters, refused if they are not as stated.
+    // One or two winters, refused if they are not as stated. (The second is looked at if there are two.)
+    #[tactic(auto, unfolding(crate::specs::Temperature::winters_right, crate::specs::Temperature::winters_mean))]
     pub fn of(count: u8, first: &'a [u32], second: &'a [u32]) -> Result<Winters<'a>, Refusal>
-        ensures given { IfOk result (λ w. (w.count ≡ count) × (w.first.now ≡ first.now) × (w.second.now ≡ second.now)) }
+        ensures given { IfOk result (λ w. (winters_right count first.now second.now ≡ true) × (average w.first.now w.second ≡ winters_mean count first.now second.now)) }
         ensures refused { IfErr result (λ r. (r ≡ OutOfRange) × (winters_right count first.now second.now ≡ false)) }
     {
-        if are_winters(count, first, second) {
-            Ok(Winters {
-                count,
-                first,
-                second,
-            })
-        } else {
-            Err(Refusal::OutOfRange)
+        let second = match count {
+            1 => None,
+            2 => Some(second),
+            _ => return Err(Refusal::OutOfRange),
+        };
+        if !is_winter(first) || !second.is_none_or(is_winter) {
+            return Err(Refusal::OutOfRange);
         }
+        Ok(Winters { first, second })
     }
 
     // The average of their means.
-    #[tactic(auto, using(crate::proofs::Means::winter_means), unfolding(crate::specs::Temperature::winters_mean))]
+    #[tactic(auto, using(crate::proofs::Means::winter_means))]
     pub fn mean(&self) -> Fraction
-        ensures { result ≡ winters_mean self.now.count self.now.first.now self.now.second.now }
+        ensures { result ≡ average self.now.first.now self.now.second }
     {
-        if self.count == 1 {
-            mean_of(self.first)
-        } else {
-            average_of(mean_of(self.first), mean_of(self.second))
+        let first = mean_of(self.first);
+        match self.second {
+            None => first,
+            Some(second) => average_of(first, mean_of(second)),
         }
     }
 }

@@ -21,7 +21,8 @@ const MOST_MONTH: u64 = 1000000000000;
 // The Wh of a kWh.
 const KILO: u64 = 1000;
 
-// The consumption of Type 2 consumers of one profile, on a gas day with g degree days, after one or two winters.
+// The consumption of Type 2 consumers of one profile, on a gas day with g degree days, after one or two winters. (How many goes
+// by number: the call itself refuses one that is neither 1 nor 2.)
 #[tactic(auto, using(crate::proofs::Products::corrected), unfolding(crate::specs::Type2::type_2, crate::specs::Type2::type_2_right, calendar::specs::Answers::tested))]
 pub fn type_2(
     consumers: u32,
@@ -61,8 +62,7 @@ impl Year {
     {
         self.consumption <= MOST_MONTH
             && self.consumers <= MOST_CONSUMERS
-            && FEWEST_DAYS <= self.days
-            && self.days <= MOST_DAYS
+            && (FEWEST_DAYS..=MOST_DAYS).contains(&self.days)
     }
 }
 

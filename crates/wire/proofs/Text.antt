@@ -1,10 +1,10 @@
 -- Text in a buffer, and the digits of a number. Assumes nothing.
-use Rattle.std.proofs.Common.{◌≡◌, refl, sym, ap, ap₂, ◌∙◌, List, [], ◌∷◌, ◌++◌, ℕ, zero, suc, ◌+◌, ◌-◌, ◌/◌, ◌%◌, ◌^◌, ◌≤◌, ◌<◌, ℤ, pos, negsuc, length, take, drop, set, arith, lit≤}
+use Rattle.std.proofs.Common.{◌≡◌, refl, sym, ap, ap₂, ◌∙◌, List, [], ◌∷◌, ◌++◌, ℕ, zero, suc, ◌+◌, ◌-◌, ◌/◌, ◌%◌, ◌^◌, ◌≤◌, ◌<◌, ℤ, pos, negsuc, length, take, drop, arith, lit≤}
 use Rattle.std.specs.Fmt.{decimal as std_decimal, signed_decimal}
 use Rattle.std.proofs.lemmas.Fmt.{decimal_by_steps, length-decimal-le}
 use mathlib.Core.List.{append_assoc}
 use lib.ListN.{length-append, length-drop}
-use lib.Seq.{length-take-le, take_at, drop-append-add, drop-drop, set_split, append_snoc}
+use lib.Seq.{length-take-le, take_at, drop-append-add, drop-drop}
 use lib.Signed.{mag}
 use borrow.Author.Tests.{lt-ltb, le-ltb}
 use Rattle.wire.specs.Text.{digits_of, natural, decimal, written, MOST_DIGITS}
@@ -26,10 +26,6 @@ module _ (d : List ℕ) (i : ℕ) (s : List ℕ) (room : i + length s ≤ length
       ap₂ (λ x y. x ++ t ++ y) (take_at (take i d ++ s) (drop (i + length s) d) (i + length s) front)
       (ap (λ k. drop k (written d i s)) (ap (λ k. k + n) (sym front)) ∙ drop-append-add (take i d ++ s) (drop (i + length s) d) n ∙ drop-drop n (i + length s) d)
       ∙ ap₂ (λ x k. x ++ drop k d) (append_assoc (take i d) s t) (sym e)
-
-pub written_one : (d : List ℕ) (i x : ℕ) → i < length d → set d i x ≡ written d i (x ∷ [])
-written_one d i x l =
-    set_split d i x l ∙ sym (append_snoc (take i d) x (drop (suc i) d)) ∙ (let e : suc i ≡ i + 1 = omega arith in ap (λ k. take i d ++ (x ∷ []) ++ drop k d) e)
 
 -- ---- a number's text is the library's
 

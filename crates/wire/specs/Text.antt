@@ -27,6 +27,10 @@ decimal (negsuc n) = 45 ∷ natural (suc n)
 abbrev pub written : List ℕ → ℕ → List ℕ → List ℕ
 written d i s = take i d ++ s ++ drop (i + length s) d
 
+-- text s is put at the end, which is place i
+abbrev pub Added : List ℕ → ℕ → List ℕ → List ℕ → ℕ → Type 0
+Added d i s d' i' = (d' ≡ written d i s) × (i' ≡ i + length s)
+
 zero_text : decimal (pos 0) ≡ 48 ∷ []
 unfolding decimal natural digits_of
 zero_text = refl

@@ -19,7 +19,7 @@ pub struct Province {
     pub zone: u32,
 }
 
-// The zone of a degree-day value, in hundredths.
+// The zone of a degree-day value, in hundredths. (Zones are numbers, as document 01 has them: an enum would only be turned into one.)
 #[tactic(auto, unfolding(crate::specs::Zones::zone_call, crate::specs::Zones::zone_of, calendar::specs::Answers::tested))]
 pub fn zone_of(hundredths: u32) -> Result<u64, Refusal>
     ensures { answer_of result ≡ zone_call hundredths }
@@ -35,7 +35,7 @@ pub fn zone_of(hundredths: u32) -> Result<u64, Refusal>
     })
 }
 
-// The provinces in the order of section 1.6 of PD-02.
+// The provinces in the order of section 1.6 of PD-02: a const table, as document 01 names it.
 const PROVINCES: [Province; 48] = [
     Province { mean: 144, zone: 1 }, // A Coruña
     Province { mean: 117, zone: 1 }, // Alicante
@@ -92,7 +92,7 @@ const PROVINCES: [Province; 48] = [
 pub fn province_of(number: u32) -> Result<Province, Refusal>
     ensures { answer_of result ≡ province_call number }
 {
-    if number < 1 || LAST_PROVINCE < number {
+    if !(1..=LAST_PROVINCE).contains(&number) {
         return Err(Refusal::OutOfRange);
     }
     Ok(PROVINCES[number as usize - 1])

@@ -49,7 +49,10 @@ use Rattle.numbers.specs.declared.Refusal.TheVariants.{ShortBuffer}
 use Rattle.numbers.specs.Refusals.{number_of}
 use Rattle.numbers.proofs.Refusals.{refusal_passed}
 use Rattle.std.specs.Result.{IsErrAnd}
-use Rattle.file_lines.specs.Entering.{entering, Entered, ComesTo, unjoined}
+use Rattle.file_lines.specs.declared.lines.Entering.{Entering}
+use Rattle.file_lines.specs.Entering.{entering, Entered, day_of, Holds, unjoined}
+use Rattle.file_lines.specs.Pieces.{nothing_entered}
+use Rattle.file_lines.proofs.Leading.{Leads, Stops}
 use Rattle.file_lines.proofs.Steps.{step, sized, sum_small}
 use Rattle.day_report.specs.Entered.{entered_and_allotted}
 use Rattle.day_report.specs.Answered.{text_for, buffer_after, size_of}
@@ -194,26 +197,18 @@ none_entered = record {
   sum = unfold read entering table total in refl;
 }
 
--- the same of arrays of zeros
-pub zeros_entered : {us : List ℕ} {cs ls : List ℤ} → us ≡ replicate USERS 0 → cs ≡ replicate CELLS (pos 0) → ls ≡ replicate CELLS (pos 0) → Entered 0 us cs ls 0
-zeros_entered p q r = rw (p, q, r) none_entered
+pub nothing_holds : {e : Entering} → e ≡ nothing_entered → Holds 0 e
+nothing_holds k = subst (Holds 0) (sym k) none_entered
 
 -- ---- the sections
 
-module _ (f : List ℕ) {us₀ : List ℕ} {cs₀ ls₀ : List ℤ} (zu : us₀ ≡ replicate USERS 0) (zc : cs₀ ≡ replicate CELLS (pos 0)) (zl : ls₀ ≡ replicate CELLS (pos 0))
-    (n : ℕ) (us : List ℕ) (cs ls : List ℤ) (m : Option Measurement) (r : measurement_right m ≡ true) where
-  from : entering 0 us₀ cs₀ ls₀ ≡ unjoined
+module _ (f : List ℕ) {e₀ : Entering} (z : e₀ ≡ nothing_entered) (n : ℕ) (e : Entering) (m : Option Measurement) (r : measurement_right m ≡ true) where
+  from : day_of e₀ 0 ≡ unjoined
   unfolding unjoined
-  from = λ i. entering 0 (zu i) (zc i) (zl i)
+  from = ap (λ e. day_of e 0) z
 
-  comes_as : (b : Result ℕ Refusal) → ComesTo b (flat (map (section_calls f) (sections f))) (entering 0 us₀ cs₀ ls₀) (entering n us cs ls)
-      → ComesTo b (flat (map (section_calls f) (sections f))) unjoined (entering n us cs ls)
-  comes_as b k = subst (λ d. ComesTo b (flat (map (section_calls f) (sections f))) d (entering n us cs ls)) from k
+  pub sections_refuse : (x : Refusal) → Stops (number_of x) (flat (map (section_calls f) (sections f))) (day_of e₀ 0) → (g : ℕ) → refused (number_of x) ≡ entered_and_allotted f g m
+  sections_refuse x k g = sym (subst (Stops (number_of x) (flat (map (section_calls f) (sections f)))) from k g m (allot ∷ []) r)
 
-  pub sections_refuse : (x : Refusal) → ComesTo (Err x) (flat (map (section_calls f) (sections f))) (entering 0 us₀ cs₀ ls₀) (entering n us cs ls)
-      → (g : ℕ) → refused (number_of x) ≡ entered_and_allotted f g m
-  sections_refuse x k g = sym (comes_as (Err x) k g m (allot ∷ []) r)
-
-  pub sections_lead : (x : ℕ) → ComesTo (Ok x) (flat (map (section_calls f) (sections f))) (entering 0 us₀ cs₀ ls₀) (entering n us cs ls)
-      → (g : ℕ) → in_order g (allot ∷ []) (entering n us cs ls m) ≡ entered_and_allotted f g m
-  sections_lead x k g = sym (comes_as (Ok x) k g m (allot ∷ []) r)
+  pub sections_lead : Leads (flat (map (section_calls f) (sections f))) (day_of e₀ 0) (day_of e n) → (g : ℕ) → in_order g (allot ∷ []) (day_of e n m) ≡ entered_and_allotted f g m
+  sections_lead k g = sym (subst (λ d. Leads (flat (map (section_calls f) (sections f))) d (day_of e n)) from k g m (allot ∷ []) r)

@@ -1,5 +1,5 @@
 -- `report::put_allotted` meets its contract. Assumes nothing.
-use Rattle.std.proofs.Common.{ap, ap₂, ◌∙◌, ◌+◌, ◌-ℤ◌, length, arith}
+use Rattle.std.proofs.Common.{ap, ap₂, ◌∙◌, ◌+◌, ◌++◌, ◌-ℤ◌, length, rules, arith}
 use Rattle.numbers.specs.Sums.{table}
 use Rattle.numbers.specs.Lists.{flat}
 use Rattle.numbers.proofs.Amounts.{sfits, within_sub, within_pos}
@@ -19,6 +19,7 @@ overflow_sub-figures c =
     let range = start_within d.consumption.now d.small.0 d.count d.few in
     sfits (within_sub (cast_safe c.args.offtake (omega (arith, c.requires.3))) (safe c.of_slots-c.ensures range (omega arith))) (omega arith)
 
+-- what is written, and how many bytes it has
 pub returns : goal.returns
 returns c =
     let d = c.args.slots.now in
@@ -31,10 +32,14 @@ returns c =
     let losses = wrapped (ap₂ ◌-ℤ◌ all consumption) (within_sub (within_pos a.offtake) range) (omega (arith, c.requires.3)) in
     let balance = wrapped (ap₂ ◌-ℤ◌ net all) (within_sub (within_pos a.net) (within_pos a.offtake)) (omega (arith, c.requires.2, c.requires.3)) in
     let line = line_as point_word day net consumption losses balance in
-    let first = put_first a.out.now 0 (offtake_line a.gas_day a.net a.offtake d.count d.consumption.now)
-    (c.put_line-at.ensures.out_after ∙ ap (λ t. written a.out.now 0 t) line)
-    (c.put_line-at.ensures.value ∙ ap (λ t. 0 + length t) line)
-    (omega (arith, c.put_line-at.ensures.bound, c.requires.0)) in
-    let q = put_more first (flat (table (slot_line d.users.now d.consumption.now d.losses.now d.shares.now) d.count))
-    c.put_users.ensures.out_after c.put_users.ensures.value.0
-    (omega (arith, c.put_users.ensures.value.1, c.put_line-at.ensures.bound, d.few, c.requires.0)) in record { value = omega (arith, q.end); out_after = q.is }
+    let new = c.new-text.result in
+    let empty = c.new-text.ensures.empty in
+    let p = c.put_line.ensures in
+    let u = c.put_users.ensures in
+    let us = flat (table (slot_line d.users.now d.consumption.now d.losses.now d.shares.now) d.count) in
+    let first = put_first new.buffer.now new.len (offtake_line a.gas_day a.net a.offtake d.count d.consumption.now)
+    (p.added.0 ∙ ap (λ t. written new.buffer.now new.len t) line, p.added.1 ∙ ap (λ t. new.len + length t) line)
+    (omega (arith, p.bound, empty.0, ap length empty.1, c.requires.0)) in
+    let q = put_more first us u.added (omega (arith, u.bound, p.bound, empty.0, ap length empty.1, d.few, c.requires.0)) in
+    let e = q.is ∙ ap₂ (λ b i. written b i (offtake_line a.gas_day a.net a.offtake d.count d.consumption.now ++ us)) empty.1 empty.0 in
+    record { value = omega (arith, q.end, empty.0); out_after = search (rules, e) }

@@ -1,3 +1,4 @@
+use mathlib.Core.Path.{◌≡◌}
 use Prim.Native.Nat.{◌≤◌, ◌+◌, ◌*◌}
 use Rattle.numbers.specs.Sums.{table}
 use Rattle.numbers.specs.Lists.{flat}
@@ -7,4 +8,6 @@ use Rattle.report.proofs.put_users.Given as goal
 
 abbrev pub invariant-loop-slot : goal.invariant-loop-slot
 invariant-loop-slot l =
-    Put l.initial.out l.i (flat (table (slot_line l.slots.users.now l.slots.consumption.now l.slots.losses.now l.slots.shares.now) l.slot)) l.out l.at × (l.at ≤ l.i + LONGEST_LINE * l.slot)
+    Put l.fn.text.buffer.now l.fn.text.len (flat (table (slot_line l.slots.users.now l.slots.consumption.now l.slots.losses.now l.slots.shares.now) l.slot)) l.text.buffer.now l.text.len
+    × (l.text.len ≤ l.fn.text.len + LONGEST_LINE * l.slot)
+    × (l.text.buffer.ghost_name ≡ l.fn.text.buffer.ghost_name)

@@ -1,15 +1,14 @@
 -- Text put into a buffer piece by piece. Assumes nothing.
-use mathlib.Core.Path.{◌≡◌, refl, sym, ap, ◌∙◌, subst}
+use mathlib.Core.Path.{◌≡◌, sym, ap, ◌∙◌, subst}
 use mathlib.Core.List.{List, [], ◌∷◌, ◌++◌, append_assoc, append-nil}
 use Prim.Native.Nat.{ℕ, zero, suc, ◌+◌, ◌≤◌, ◌<◌}
 use native.Mathlib.Omega.{arith}
 use native.Mathlib.Numerals.{add-one}
 use lib.IntN.{ℤ, pos}
-use lib.ListN.{length, get_or, set, take, drop, length-append, take-append-drop}
-use lib.Seq.{take-length}
-use Rattle.wire.specs.Text.{decimal, written}
-use Rattle.wire.proofs.Text.{written_length, written_more, written_one}
-use Rattle.day_file.specs.Text.{SPACE, LINE_FEED, spaced, text_line}
+use lib.ListN.{length, get_or, take, drop, length-append, take-append-drop}
+use Rattle.wire.specs.Text.{decimal, written, Added}
+use Rattle.wire.proofs.Text.{written_length, written_more}
+use Rattle.day_file.specs.Text.{SPACE, spaced}
 
 -- d' is d with the text s from place i on, which ends at `at`
 pub record Put (d : List ℕ) (i : ℕ) (s d' : List ℕ) (at : ℕ) : Type 0 where
@@ -21,18 +20,15 @@ module _ {d : List ℕ} {i : ℕ} {s d' : List ℕ} {at : ℕ} (p : Put d i s d'
   pub put_length : length d' ≡ length d
   put_length = ap length p.is ∙ written_length d i s (omega (arith, p.end, p.room))
 
-  pub put_more : (t : List ℕ) {d'' : List ℕ} {at' : ℕ} → d'' ≡ written d' at t → at' ≡ at + length t → at' ≤ length d → Put d i (s ++ t) d'' at'
-  put_more t {d''} {at'} e f l = record {
-    is = e ∙ rw (p.is, p.end) (written_more d i s (omega (arith, p.end, p.room)) t (omega (arith, p.end)));
-    end = rw (length-append s t) (omega (arith, p.end));
+  pub put_more : (t : List ℕ) {d'' : List ℕ} {at' : ℕ} → Added d' at t d'' at' → at' ≤ length d → Put d i (s ++ t) d'' at'
+  put_more t {d''} {at'} e l = record {
+    is = e.0 ∙ rw (p.is, p.end) (written_more d i s (omega (arith, p.end, p.room)) t (omega (arith, p.end, e.1)));
+    end = rw (length-append s t) (omega (arith, p.end, e.1));
     room = l;
   }
 
-  pub put_one : (x : ℕ) → at < length d → Put d i (s ++ (x ∷ [])) (set d' at x) (at + 1)
-  put_one x l = put_more (x ∷ []) (written_one d' at x (omega (arith, put_length))) refl (omega arith)
-
-pub put_first : (d : List ℕ) (i : ℕ) (s : List ℕ) {d' : List ℕ} {at : ℕ} → d' ≡ written d i s → at ≡ i + length s → at ≤ length d → Put d i s d' at
-put_first d i s e f l = record { is = e; end = f; room = l }
+pub put_first : (d : List ℕ) (i : ℕ) (s : List ℕ) {d' : List ℕ} {at : ℕ} → Added d i s d' at → at ≤ length d → Put d i s d' at
+put_first d i s e l = record { is = e.0; end = e.1; room = l }
 
 pub put_none : (d : List ℕ) (i : ℕ) → i ≤ length d → Put d i [] d i
 put_none d i l = record { is = sym (rw (append-nil (take i d)) (none i)); end = omega arith; room = l }
@@ -57,9 +53,6 @@ spaced_next word zs k l =
     append_assoc (word ++ spaced (take k zs)) (SPACE ∷ []) (decimal z)
     ∙ append_assoc word (spaced (take k zs)) (SPACE ∷ decimal z)
     ∙ ap (λ t. word ++ t) (sym (rw add-one (spaced_suc zs k l)))
-
-pub spaced_all : (word : List ℕ) (zs : List ℤ) (k : ℕ) → k ≡ length zs → (word ++ spaced (take k zs)) ++ (LINE_FEED ∷ []) ≡ text_line word zs
-spaced_all word zs k e = rw (e, take-length zs) (append_assoc word (spaced zs) (LINE_FEED ∷ []))
 
 -- the same text by another name
 pub put_as : {d : List ℕ} {i : ℕ} {s t d' : List ℕ} {at : ℕ} → s ≡ t → Put d i s d' at → Put d i t d' at

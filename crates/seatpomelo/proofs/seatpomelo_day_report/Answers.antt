@@ -2,12 +2,14 @@
 use mathlib.Core.Path.{ap, ◌∙◌}
 use mathlib.Core.List.{[], ◌∷◌}
 use Rattle.seatpomelo.specs.Settled.{settles, number}
+use Rattle.seatpomelo.proofs.Settling.{number_settled}
 use Rattle.seatpomelo.proofs.seatpomelo_day_report.Goals as goal
 
 pub returns : goal.returns
 returns c =
-    let s = c.args in record {
-      written_after = c.settle.ensures
-          ∙ ap (λ x. settles number x (s.written.now ∷ [])) (c.bytes_of.ensures ∙ c.write_report-answer.ensures.result_value);
-      out_after = c.write_report-answer.ensures.out_after;
+    let e = c.settle_count.ensures in
+    let r = c.write_report.ensures in
+    record {
+      written_after = rw (e.0, e.1) (number_settled c.write_report.result c.args.written.now ∙ ap (λ a. settles number a (c.args.written.now ∷ [])) r.result_value);
+      out_after = r.out_after;
     }

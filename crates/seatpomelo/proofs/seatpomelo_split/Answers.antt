@@ -4,6 +4,6 @@ use Rattle.seatpomelo.proofs.seatpomelo_split.Goals as goal
 
 pub returns : goal.returns
 returns c = record {
-  value = rw (to_z-of_z c.ranges.amount) at c.split.ensures.value;
+  value = rw c.status.ensures (rw (to_z-of_z c.ranges.amount) at c.split.ensures.value);
   out_after = rw (to_z-of_z c.ranges.amount) at c.split.ensures.out_after;
 }

@@ -1,9 +1,9 @@
 -- `day_report::allotment::allot` meets its contract. Assumes nothing.
-use mathlib.Core.Path.{ap}
+use mathlib.Core.Path.{refl, ap}
 use Prim.Native.Nat.{◌-◌}
 use lib.IntN.{ℤ, pos}
 use lib.ListN.{length, length-replicate}
-use Rattle.numbers.proofs.Amounts.{widen}
+use Rattle.numbers.proofs.Amounts.{widen, sfits, within_sub}
 use Rattle.numbers.specs.declared.Refusal.TheVariants.{NoUser}
 use Rattle.point_day.specs.Limits.{USERS}
 use Rattle.report.proofs.Figures.{cast_safe}
@@ -29,32 +29,32 @@ pub overflow_sub-net : goal.overflow_sub-net
 overflow_sub-net c =
     omega (arith, downstream_low c.requires.2 c.args.header.emission c.args.header.downstream c.requires.1)
 
-pub overflow_cast-net : goal.overflow_cast-net
-overflow_cast-net c =
+pub overflow_cast-balance : goal.overflow_cast-balance
+overflow_cast-balance c =
     record { sfits = omega (arith, emission_low c.requires.2 c.args.header.emission c.args.header.downstream c.requires.1) }
 
-pub overflow_cast-offtake : goal.overflow_cast-offtake
-overflow_cast-offtake c = record { sfits = omega (arith, sum_small c.requires.2) }
+pub overflow_cast-balance-2 : goal.overflow_cast-balance-2
+overflow_cast-balance-2 c = record { sfits = omega (arith, sum_small c.requires.2) }
 
-pub minus-balance-requires : goal.minus-balance-requires
-minus-balance-requires c =
+pub overflow_sub-balance : goal.overflow_sub-balance
+overflow_sub-balance c =
     let e = c.args.header.emission in
     let w = c.args.header.downstream in
-    (cast_safe (e - w) (omega (arith, emission_low c.requires.2 e w c.requires.1)), cast_safe c.args.offtake (omega (arith, sum_small c.requires.2)))
+    sfits (within_sub (cast_safe (e - w) (omega (arith, emission_low c.requires.2 e w c.requires.1))) (cast_safe c.args.entered.now.offtake (omega (arith, sum_small c.requires.2)))) (omega arith)
 
 pub share_out-requires : goal.share_out-requires
 share_out-requires c =
     let a = c.args in
     let e = a.header.emission in
     let w = a.header.downstream in
-    let d = difference c.requires.2 e w c.requires.1 c.minus-balance.ensures in record { within = (balance_small c.requires.2 e w c.requires.1 d, in_range c.requires.2 e w c.requires.1, search rules); n_nonzero = (omega (arith, c.if-n-eq0.false), few c.requires.2, omega (arith, few c.requires.2, ap length c.no_amounts-shares.ensures, length-replicate {A = ℤ} USERS (pos 0))) }
+    let d = difference c.requires.2 e w c.requires.1 refl in record { within = (balance_small c.requires.2 e w c.requires.1 d, in_range c.requires.2 e w c.requires.1, search rules); n_nonzero = (omega (arith, c.if-n-eq0.false), few c.requires.2, omega (arith, few c.requires.2, ap length c.no_amounts-shares.ensures, length-replicate {A = ℤ} USERS (pos 0))) }
 
 pub invariant_of-slots : goal.invariant_of-slots
 invariant_of-slots c =
     let a = c.args in
     let e = a.header.emission in
     let w = a.header.downstream in
-    let d = difference c.requires.2 e w c.requires.1 c.minus-balance.ensures in record {
+    let d = difference c.requires.2 e w c.requires.1 refl in record {
       few = few c.requires.2;
       small = (
         λ i. widen (limited_consumption c.requires.2 i) (omega arith),
@@ -73,7 +73,7 @@ returns c =
     let a = c.args in
     let e = a.header.emission in
     let w = a.header.downstream in
-    let d = difference c.requires.2 e w c.requires.1 c.minus-balance.ensures in
+    let d = difference c.requires.2 e w c.requires.1 refl in
     let t = by_shares c.requires.2 e w c.requires.1 c.if-n-eq0.false d c.no_amounts-shares.ensures c.share_out.ensures.shares_after a.header.day in
     let both = with_room c.requires.2 e w c.requires.1 c.if-n-eq0.false a.header.day a.out.now (omega (arith, c.if-out-lt-REPORT_ROOM.false)) t
     c.put_allotted.ensures.value c.put_allotted.ensures.out_after in

@@ -1,5 +1,6 @@
-use Prim.Native.Nat.{◌+◌, ◌*◌, ◌≤◌}
+use mathlib.Core.Path.{◌≡◌}
 use mathlib.Core.List.{◌++◌}
+use Prim.Native.Nat.{◌+◌, ◌*◌, ◌≤◌}
 use lib.ListN.{length, take}
 use Rattle.day_file.specs.Text.{spaced}
 use Rattle.report.specs.Lines.{NUMBER}
@@ -8,4 +9,6 @@ use Rattle.report.proofs.lines.put_line.Given as goal
 
 abbrev pub invariant-loop-number : goal.invariant-loop-number
 invariant-loop-number l =
-    Put l.fn.out l.i (l.word ++ spaced (take l.number-index l.numbers)) l.out l.at × (l.at ≤ l.i + length l.word + NUMBER * l.number-index)
+    Put l.fn.text.buffer.now l.fn.text.len (l.word ++ spaced (take l.number-index l.numbers)) l.text.buffer.now l.text.len
+    × (l.text.len ≤ l.fn.text.len + length l.word + NUMBER * l.number-index)
+    × (l.text.buffer.ghost_name ≡ l.fn.text.buffer.ghost_name)

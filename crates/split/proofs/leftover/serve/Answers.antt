@@ -6,5 +6,5 @@ use Rattle.split.proofs.leftover.serve.Goals as goal
 
 pub returns-then-left-eq0 : goal.returns-then-left-eq0
 returns-then-left-eq0 c =
-    let s = c.args in
-    none_left (at s.rems.now) (at s.keys.now) s.shares.now (length s.rems.now) c.requires.rems_in_bounds.1 c.if-left-eq0.true
+    let p = c.args.parties.now in
+    none_left (at p.rems.now) (at p.keys.now) c.args.shares.now (length p.rems.now) c.requires.room c.if-left-eq0.true

@@ -6,8 +6,8 @@ use Rattle.split.proofs.leftover.serve_tied.Goals as goal
 
 pub returns-then-count_ahead-left : goal.returns-then-count_ahead-left
 returns-then-count_ahead-left c =
-    let s = c.args in
-    let n = length s.rems.now in
+    let p = c.args.parties.now in
+    let n = length p.rems.now in
     c.serve_ahead.ensures
-    ∙ ap (λ t. t ++ drop n s.shares.now)
-    (by_cut (at s.rems.now) (at s.keys.now) n s.x c.cut_key-y.result (sym c.count_ahead.ensures ∙ c.if-count_ahead-left.true) (at s.shares.now))
+    ∙ ap (λ t. t ++ drop n c.args.shares.now)
+    (by_cut (at p.rems.now) (at p.keys.now) n c.args.x c.cut_key.result (sym c.count_ahead.ensures ∙ c.if-count_ahead-left.true) (at c.args.shares.now))

@@ -38,7 +38,9 @@ returns c =
     (wrapped c.of_slot-l.ensures k (omega arith))
     (wrapped refl z (omega arith))
     (wrapped whole (within_add (within_add h k) z) (omega arith)) in
+    let p = c.put_line.ensures in
     record {
-      value = (c.put_line.ensures.value ∙ ap (λ t. c.args.i + length t) l, omega (arith, c.put_line.ensures.bound));
-      out_after = c.put_line.ensures.out_after ∙ ap (λ t. written c.args.out.now c.args.i t) l;
+      same_reference = p.same_reference;
+      added = (p.added.0 ∙ ap (λ t. written c.args.text.now.buffer.now c.args.text.now.len t) l, p.added.1 ∙ ap (λ t. c.args.text.now.len + length t) l);
+      bound = omega (arith, p.bound);
     }

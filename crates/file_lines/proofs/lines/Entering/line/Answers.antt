@@ -1,7 +1,7 @@
--- `file_lines::lines::enter_line` meets its contract. Assumes nothing.
+-- `file_lines::lines::Entering::line` meets its contract: an entry that is right is in its ranges. Assumes nothing.
 use Rattle.std.proofs.Common.{sym}
 use Rattle.line.proofs.cells.Ranges.{ranges}
-use Rattle.file_lines.proofs.lines.enter_line.Goals as goal
+use Rattle.file_lines.proofs.lines.Entering.line.Goals as goal
 
 pub line_cell-requires-clause-slot_bound : goal.line_cell-requires-clause-slot_bound
 line_cell-requires-clause-slot_bound c =

@@ -1,0 +1,54 @@
+-- What the contracts of the reading functions come to on given bytes. Assumes nothing.
+use mathlib.Core.Path.{◌≡◌, refl, ap}
+use mathlib.Core.Bool.{true}
+use mathlib.Core.List.{List, [], ◌∷◌, ◌++◌}
+use Prim.Native.Nat.{ℕ, suc, ◌+◌, ◌*◌, ◌≤◌, ◌<◌}
+use native.Mathlib.Omega.{arith}
+use lib.ListN.{drop, length}
+use lib.IntN.{ℤ, pos}
+use Rattle.std.specs.Prelude.{Result, Ok, Err, IsOk, IsErr, IfOk, OnOk, OnErr, ◌↔◌}
+use Rattle.console.specs.declared.input.Malformed.{Malformed}
+use Rattle.numbers.specs.Sums.{table}
+use Rattle.numbers.proofs.Lists.{never}
+use Rattle.wire.specs.Bytes.{little_endian, signed_64}
+use Rattle.console.specs.Input.{spelled_in}
+
+absent : {n : ℕ} → suc (suc n) ≤ suc n → ⊥
+absent h = absurd (omega arith)
+
+-- what is done after a number, if there is one, as `?` does it
+abbrev pub and_then : {A B : Type 0} → Result A Malformed → (A → Result B Malformed) → Result B Malformed
+and_then (Ok x) f = f x
+and_then (Err e) f = Err e
+
+-- the clauses of `Number::read`: a number of n bytes that `spelled` gives, read from `before`, which leaves `after`
+pub record Reads {A : Type 0} (n : ℕ) (spelled : List ℕ → A) (before : List ℕ) (r : Result A Malformed) (after : List ℕ) : Type 0 where
+  pub ok : IsOk r ↔ (n ≤ length before)
+  pub value : IfOk r (λ x. x ≡ spelled before)
+  pub rest : OnOk r (after ≡ drop n before)
+  pub same : OnErr r (after ≡ before)
+
+-- two bytes after the first
+pub two_bytes : (r : Result ℕ Malformed) (after : List ℕ) → Reads 2 (λ s. little_endian 2 s 0) (1 ∷ 2 ∷ []) r after → (r ≡ Ok 513) × (after ≡ [])
+unfolding little_endian
+two_bytes (Ok x) after h = (ap Ok h.value, h.rest)
+two_bytes (Err e) after h = never (h.ok.1 (omega arith))
+
+-- two bytes where one is left: there is no number, and nothing is passed over
+pub cut_short : (r : Result ℕ Malformed) (after : List ℕ) → Reads 2 (λ s. little_endian 2 s 0) (2 ∷ []) r after → IsErr r × (after ≡ 2 ∷ [])
+cut_short (Ok x) after h = absurd (absent (h.ok.0 (refl {a = true})))
+cut_short (Err e) after h = (refl {a = true}, h.same)
+
+-- what is malformed stays so: nothing that `?` would hand on to is run
+pub stays_failed : {A B : Type 0} (e : Malformed) (f : A → Result B Malformed) → and_then (Err e) f ≡ Err e
+stays_failed e f = refl
+
+-- 2 where at most 1 has a meaning
+pub no_meaning : (r : Result ℕ Malformed) → (IsOk r ↔ (2 ≤ 1)) → IsErr r
+no_meaning (Ok x) h = absurd (absent (h.0 (refl {a = true})))
+no_meaning (Err e) h = refl {a = true}
+
+-- two numbers of eight bytes where nine are: the first is read
+pub then_cut_short : spelled_in 8 (λ s. signed_64 (little_endian 8 s 0)) (2 ∷ 0 ∷ 0 ∷ 0 ∷ 0 ∷ 0 ∷ 0 ∷ 0 ∷ 7 ∷ []) 1 ≡ pos 2 ∷ []
+unfolding spelled_in table little_endian
+then_cut_short = refl
