@@ -19,7 +19,7 @@ use plain_day::writes;
 
 // ---- A user's slot
 
-// Hints where a user may stand, by the remainder of its number.
+// Hints where a user may stand, by the remainder of its number. (A table and no map: nothing is allocated.)
 const HINTS: usize = 1024;
 
 // Slots by the remainder of the user number; of two users with the same remainder the later one is hinted at.

@@ -1,4 +1,4 @@
-// What stands before the amounts of a point-day in plain numbers.
+// What stands before the amounts of a point-day in plain numbers. (A slice and its length, as in `writes`.)
 ghost use Rattle.std.specs.Prelude.{◌≡◌, true, map, ◌<◌, pos, nat_abs, length};
 ghost use Rattle.numbers.specs.Sums.{atZ};
 ghost use Rattle.numbers.specs.Lists.{every};

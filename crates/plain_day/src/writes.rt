@@ -1,4 +1,5 @@
-// What calls write into a point-day in plain numbers, each where it stands.
+// What calls write into a point-day in plain numbers, each where it stands. (Each asks for the length of the list and takes no array of
+// LENGTH numbers: to have one, a call on a lent slice would open an option that is never `None`, and so read no plainer.)
 ghost use Rattle.std.specs.Prelude.{◌≡◌, ◌++◌, map, ◌+◌, ◌-◌, ◌≤◌, ◌<◌, pos, length, take, set, replicate};
 ghost use Rattle.numbers.specs.Sums.{atZ};
 ghost use Rattle.numbers.specs.Amounts.{Within};

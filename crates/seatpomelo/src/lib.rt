@@ -1,4 +1,4 @@
-// The calls for programs in other languages, on numbers and lists that the caller lends; `seatpomelo_c` exports them.
+// The calls for programs in other languages, on numbers and lists that the caller lends, as C has them; `seatpomelo_c` exports them.
 #![tactic(auto)]
 
 ghost use Rattle.std.specs.Prelude.{◌≡◌, [], ◌∷◌, length, pos};

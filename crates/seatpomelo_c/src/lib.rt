@@ -1,4 +1,5 @@
 // The calls of `seatpomelo` as programs in C and other languages have them: each export calls the function of its name, and promises the same.
+// (They stand twice, since no crate can depend on a static library, and `boundary` speaks of these functions.)
 #![tactic(auto)]
 
 ghost use Rattle.std.specs.Prelude.{◌≡◌, [], ◌∷◌, length, pos};

@@ -15,8 +15,7 @@ use Rattle.point_day.proofs.Wholes.{length_weights}
 use Rattle.allot.specs.UserWeights.{CellsInRange, consumption_and_losses, by_all_kinds}
 use Rattle.allot.proofs.weights.Weighing.{cells_full}
 use Rattle.allot.specs.Shared.{shares_of}
-use Rattle.allot.proofs.shares.Sharing.{shares_long}
-use Rattle.allot.specs.Slots.{balances_of, all_balances}
+use Rattle.allot.specs.Slots.{all_balances}
 use Rattle.allot.proofs.balance.Parts.{flat_long}
 
 -- zeros are the cells of nobody
@@ -52,15 +51,6 @@ module _ (z : ℤ) (cs ls : List ℤ) (users : List ℕ) (n : ℕ) where
       ∙ ap₂ (λ y m. shares_of y cs ls users m ++ drop m o₀) e q
       ∙ ap (λ t. shares_of z cs ls users n ++ t) (drop_of_length-le o₀ {i = n} (omega arith))
       ∙ append-nil _
-
-  -- each of them over its user's kinds
-  pub spread_is : {all : Bool} {zs d : List ℤ} (d₀ : List ℤ) → all ≡ by_all_kinds cs ls n → zs ≡ shares_of z cs ls users n
-      → d ≡ balances_of all cs ls zs (length zs) ++ drop (KINDS * length zs) d₀ → d ≡ all_balances z cs ls users n ++ drop (KINDS * n) d₀
-  spread_is {all} {zs} d₀ a e q =
-      let long : length zs ≡ n = ap length e ∙ shares_long z cs ls users n in
-      q
-      ∙ ap (λ k. balances_of all cs ls zs k ++ drop (KINDS * k) d₀) long
-      ∙ ap₂ (λ p t. balances_of p cs ls t n ++ drop (KINDS * n) d₀) a e
 
 module _ (z : ℤ) (cs ls : List ℤ) (users : List ℕ) (n : ℕ) (h : CellsInRange cs ls) (l : n ≤ USERS) where
   balances_long : length (all_balances z cs ls users n) ≡ KINDS * n

@@ -1,15 +1,14 @@
--- The users' shares: what a split leaves in its buffer, and what fits; the weights of a share over kinds. Assumes nothing.
+-- The users' shares: what a split leaves in its buffer, and what fits. Assumes nothing.
 use mathlib.Core.Path.{◌≡◌, ap, ap₂, ◌∙◌}
 use mathlib.Core.Bool.{true}
-use mathlib.Core.List.{List, [], ◌∷◌, ◌++◌}
+use mathlib.Core.List.{List, ◌++◌}
 use mathlib.Core.Logic.{⊎_elim}
 use Prim.Native.Nat.{ℕ, ◌≤◌}
 use native.Mathlib.Omega.{arith}
 use lib.IntN.{ℤ, pos}
 use lib.ListN.{length, take, drop, get_or-eq_default}
 use lib.Seq.{length-take-le}
-use borrow.Author.Tests.{eq-eqb, ne_eqb}
-use Rattle.numbers.specs.Sums.{atZ, total}
+use Rattle.numbers.specs.Sums.{atZ}
 use Rattle.numbers.specs.Lists.{distinct}
 use Rattle.numbers.specs.Amounts.{Within}
 use Rattle.numbers.proofs.Sums.{lt_or_ge, length_table}
@@ -18,7 +17,6 @@ use Rattle.proration.specs.Proration.{prorateZ}
 use Rattle.proration.proofs.Signs.{lengthZ}
 use Rattle.proration.proofs.Fairness.{share_size}
 use Rattle.point_day.specs.Limits.{LIMIT}
-use Rattle.point_day.specs.Calls.{or_kind_1}
 use Rattle.allot.specs.UserWeights.{basis_weights}
 use Rattle.allot.specs.Shared.{shares_of}
 
@@ -51,11 +49,3 @@ module _ (z : ℤ) (cs ls : List ℤ) (users : List ℕ) (n : ℕ) where
       where
         long : length (basis_weights cs ls n) ≡ n
         long = length_table _ n
-
--- ---- the weights that count
-
-pub none_weigh : (ws : List ℕ) → total ws ≡ 0 → 1 ∷ 0 ∷ 0 ∷ 0 ∷ 0 ∷ [] ≡ or_kind_1 ws
-none_weigh ws e = rw (eq-eqb (total ws) 0 e)
-
-pub some_weigh : (ws : List ℕ) → (total ws ≡ 0 → ⊥) → ws ≡ or_kind_1 ws
-some_weigh ws h = rw (ne_eqb (total ws) 0 h)

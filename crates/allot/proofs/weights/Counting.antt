@@ -1,5 +1,5 @@
--- The users' weights: what fits, which count, and their sum. Assumes nothing.
-use mathlib.Core.Path.{◌≡◌, sym, ap, ap₂, ◌∙◌}
+-- The users' weights: what fits. Assumes nothing.
+use mathlib.Core.Path.{◌≡◌, ap, ◌∙◌}
 use mathlib.Core.Bool.{Bool, true, false}
 use mathlib.Core.List.{List, [], ◌∷◌, map, zip_with}
 use mathlib.Core.Logic.{⊎_elim}
@@ -7,13 +7,12 @@ use Prim.Native.Nat.{ℕ, zero, suc, ◌+◌, ◌*◌, ◌≤◌}
 use native.Mathlib.Omega.{arith}
 use lib.IntN.{ℤ, nat_abs}
 use lib.ListN.{length, take, drop, get_or-eq_default}
-use borrow.Author.Tests.{eq-eqb, ne_eqb}
 use Rattle.numbers.specs.Sums.{total, Bounded}
 use Rattle.numbers.proofs.Sums.{lt_or_ge, length_table, at_table}
 use Rattle.proration.specs.Proration.{PARTIES, LARGEST_WEIGHT}
 use Rattle.point_day.specs.Limits.{USERS, KINDS, LIMIT}
 use Rattle.point_day.specs.Calls.{by_basis}
-use Rattle.allot.specs.UserWeights.{CellsInRange, consumption_and_losses, weight_at, weights, by_all_kinds, basis_weights}
+use Rattle.allot.specs.UserWeights.{CellsInRange, consumption_and_losses, weight_at, weights}
 
 -- ---- a user's weight is no more than all consumption and losses
 
@@ -64,16 +63,3 @@ module _ (cs ls : List ℤ) (h : CellsInRange cs ls) where
           (λ m. rw (at_table (weight_at all cs ls) n i m) (omega (arith, user_small all i)))
           (λ m. rw (get_or-eq_default (weights all cs ls n) 0 {n = i} (omega (arith, length_table (weight_at all cs ls) n))) (omega arith))
           (lt_or_ge i n)
-
--- ---- the basis
-
-module _ (cs ls : List ℤ) (n : ℕ) {ws : List ℕ} {x : ℕ} (e : ws ≡ weights false cs ls n) (t : x ≡ total ws) where
-  pub by_kinds_2_to_5 : (x ≡ 0 → ⊥) → (false ≡ by_all_kinds cs ls n) × (ws ≡ basis_weights cs ls n)
-  by_kinds_2_to_5 h =
-      let b : false ≡ by_all_kinds cs ls n = sym (ne_eqb (total (weights false cs ls n)) 0 (λ z. h (t ∙ ap total e ∙ z))) in
-      (b, e ∙ ap (λ p. weights p cs ls n) b)
-
-  pub by_all : x ≡ 0 → {m : ℕ} → m ≡ n → {vs : List ℕ} → vs ≡ weights true cs ls m → (true ≡ by_all_kinds cs ls n) × (vs ≡ basis_weights cs ls n)
-  by_all h q f =
-      let b : true ≡ by_all_kinds cs ls n = sym (eq-eqb (total (weights false cs ls n)) 0 (sym (ap total e) ∙ sym t ∙ h)) in
-      (b, f ∙ ap₂ (λ p m. weights p cs ls m) b q)

@@ -4,13 +4,11 @@ use mathlib.Core.Bool.{Bool, true, false}
 use mathlib.Core.List.{List, [], ◌∷◌, map, zip_with}
 use Prim.Native.Nat.{ℕ, zero, suc, ◌+◌, ◌*◌, ◌≤◌, ◌<◌}
 use native.Mathlib.Omega.{arith}
-use lib.Dec.{T}
 use lib.IntN.{ℤ, pos, nat_abs, ◌+ℤ◌}
-use lib.Signed.{non_neg}
 use lib.ListN.{length, get_or, drop, length-map}
 use lib.Seq.{get_or-take, get_or-drop}
 use mir.Syntax.{w64}
-use mir.Val.{of_z, to_z, SFits, Fits}
+use mir.Val.{of_z, to_z, SFits}
 use Rattle.numbers.specs.Sums.{pick, atZ, Bounded}
 use Rattle.numbers.specs.Amounts.{Between}
 use Rattle.numbers.proofs.Amounts.{pos_size}
@@ -20,7 +18,7 @@ use Rattle.point_day.specs.Calls.{by_basis}
 use Rattle.point_day.specs.Struct.{kinds_of}
 use Rattle.point_day.proofs.Arrays.{Full}
 use Rattle.state.proofs.Cells.{between_sign, low_size}
-use Rattle.state.proofs.Ranges.{added_is, added_fits, added_cast}
+use Rattle.state.proofs.Ranges.{added_is, added_fits}
 use Rattle.state.proofs.Totals.{kinds_long}
 use Rattle.allot.specs.UserWeights.{consumption_and_losses}
 
@@ -35,10 +33,6 @@ module _ {x y : ℤ} (h : Between (pos 0) (pos LIMIT) x) (k : Between (pos 0) (p
 
   pub cell_fits : SFits w64 (to_z w64 (of_z w64 x) +ℤ to_z w64 (of_z w64 y))
   cell_fits = added_fits (nat_abs x) (nat_abs y) (omega (arith, low_size LIMIT x h)) (omega (arith, low_size LIMIT y k)) x_is y_is
-
-  pub cell_cast : T (non_neg (to_z w64 (of_z w64 (to_z w64 (of_z w64 x) +ℤ to_z w64 (of_z w64 y)))))
-      × Fits w64 (nat_abs (to_z w64 (of_z w64 (to_z w64 (of_z w64 x) +ℤ to_z w64 (of_z w64 y)))))
-  cell_cast = added_cast (nat_abs x) (nat_abs y) (omega (arith, low_size LIMIT x h)) (omega (arith, low_size LIMIT y k)) x_is y_is
 
   pub cell_is : nat_abs (to_z w64 (of_z w64 (to_z w64 (of_z w64 x) +ℤ to_z w64 (of_z w64 y)))) ≡ nat_abs x + nat_abs y
   cell_is = ap nat_abs (added_is (nat_abs x) (nat_abs y) (omega (arith, low_size LIMIT x h)) (omega (arith, low_size LIMIT y k)) x_is y_is)

@@ -92,6 +92,3 @@ module _ (us : List ℕ) (cs ls bs out₀ : List ℤ) where
             ∙ drop-append-add (cells us cs ls bs i) (drop place out₀) (length (cell us cs ls bs i))
             ∙ drop-drop (length (cell us cs ls bs i)) place out₀
             ∙ ap (λ m. drop m out₀) (sym p.next_is)
-
-  pub all_written : (i n place : ℕ) (out : List ℤ) → RowsSoFar us cs ls bs out₀ i place out → i ≡ n → out ≡ cells us cs ls bs n ++ drop (ROW * row_count cs ls bs n) out₀
-  all_written i n place out h e = h.buffer ∙ ap₂ (λ s m. s ++ drop m out₀) (ap (cells us cs ls bs) e) (h.counted ∙ ap (λ k. ROW * row_count cs ls bs k) e)

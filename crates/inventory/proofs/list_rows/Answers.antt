@@ -26,11 +26,6 @@ returns-then-out-rows c d k x y z =
     let e : c.count_rows-rows.result ≡ row_total d = rw (k.count, x, y, z) c.count_rows-rows.ensures in
     short d _ k.is_taken (k.allotted ∙ a) (omega (arith, c.if-out-rows.true, e))
 
-pub write_rows-requires : goal.write_rows-requires
-write_rows-requires c =
-    let p = c.requires in
-    (omega (arith, p.0), search rules, omega (arith, c.if-out-rows.false, c.count_rows-rows.ensures))
-
 pub returns : goal.returns
 returns c d k x y z =
     let a : c.args.state.now.allotted ≡ true = search rules in

@@ -58,9 +58,6 @@ size-weight_sum-requires c = held_safe c.requires.0.holds.known
 pub shared_ref_as_front-users : goal.shared_ref_as_front-users
 shared_ref_as_front-users c = known_few c.requires.0.holds.known
 
-pub slice_bounds-users-end : goal.slice_bounds-users-end
-slice_bounds-users-end c = sym (users_long c.requires.0.holds.known)
-
 pub assign-requires : goal.assign-requires
 assign-requires c =
     let k = c.requires.0.holds.known in

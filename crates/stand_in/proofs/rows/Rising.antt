@@ -2,16 +2,13 @@
 use mathlib.Core.Path.{◌≡◌, refl, sym, ap, ◌∙◌}
 use mathlib.Core.Bool.{true, false}
 use mathlib.Core.List.{List, [], ◌∷◌}
-use mathlib.Core.Logic.{⊎_elim}
-use Prim.Native.Nat.{ℕ, zero, suc, ◌+◌, ◌≤◌, ◌<◌}
+use Prim.Native.Nat.{ℕ, zero, suc, ◌≤◌, ◌<◌}
 use native.Mathlib.Omega.{arith}
-use native.Mathlib.Numerals.{add-one}
 use lib.Dec.{ltb}
 use lib.ListN.{length}
 use borrow.Author.Tests.{le-leb, lt-leb, lt-ltb, le-ltb}
 use Rattle.numbers.specs.Sums.{at}
 use Rattle.numbers.specs.Lists.{both, every, rising}
-use Rattle.numbers.proofs.Sums.{lt_or_ge}
 use Rattle.numbers.proofs.Lists.{both_true, both_none}
 use Rattle.point_day.specs.Limits.{LAST_NUMBER}
 use Rattle.point_day.specs.Day.{is_number}
@@ -39,16 +36,7 @@ pub record Risen (us : List ℕ) (last i : ℕ) : Type 0 where
   pub each : (k : ℕ) → k < i → (at (0 ∷ us) k < at us k) × (at us k ≤ LAST_NUMBER)
 
 module _ (us : List ℕ) where
-  pub risen_none : Risen us 0 0
-  risen_none = record { before = refl; each = λ k l. absurd (omega arith) }
-
   module _ {last i : ℕ} (r : Risen us last i) where
-    pub risen_more : last < at us i → at us i ≤ LAST_NUMBER → Risen us (at us i) (i + 1)
-    risen_more l m = record {
-      before = rw add-one refl;
-      each = λ k q. ⊎_elim (λ p. r.each k p) (λ p. let e : k ≡ i = omega arith in rw e (rw r.before at l, m)) (lt_or_ge k i);
-    }
-
     pub risen_all : i ≡ length us → true ≡ both (every is_number us) (rising us)
     risen_all e =
         sym (both_true

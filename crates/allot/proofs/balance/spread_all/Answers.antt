@@ -1,8 +1,7 @@
 -- `allot::balance::spread_all` meets its contract: a buffer that is filled five cells at a time. Assumes nothing.
 use mathlib.Core.Path.{◌≡◌, sym, ap, ap₂, ◌∙◌}
-use mathlib.Core.List.{◌++◌}
 use Prim.Native.Nat.{ℕ, ◌+◌, ◌*◌, ◌<◌, ◌-◌}
-use lib.ListN.{drop, length-drop, length}
+use lib.ListN.{length-drop, length}
 use lib.Seq.{length-take-le}
 use Rattle.numbers.specs.Sums.{at, atZ, total}
 use Rattle.numbers.proofs.Sums.{at_table, length_table}
@@ -10,7 +9,6 @@ use Rattle.numbers.proofs.Amounts.{back}
 use Rattle.proration.specs.Proration.{prorateZ}
 use Rattle.point_day.specs.Calls.{or_kind_1, kinds, with_share}
 use Rattle.allot.specs.UserWeights.{consumption_and_losses, weight_at}
-use Rattle.allot.specs.Slots.{balances_of}
 use Rattle.allot.specs.Basis.{are_all}
 use Rattle.allot.proofs.balance.Cells.{share_long}
 use Rattle.allot.proofs.balance.Parts.{parts_none, parts_step}
@@ -28,9 +26,6 @@ pub bounds-ws-s : goal.bounds-ws-s
 bounds-ws-s c =
     let a = c.args in
     omega (arith, ap length c.requires.ws_value.0, length_table (weight_at (are_all a.kinds) a.offtakes.now.consumption.now a.offtakes.now.losses.now) (length a.shares.now))
-
-pub slice_bounds-spread-end : goal.slice_bounds-spread-end
-slice_bounds-spread-end c = omega (arith, c.loop-s.invariant.long, c.requires.shares_len_bound.1, c.requires.shares_len_bound.0)
 
 pub spread-requires : goal.spread-requires
 spread-requires c =
@@ -60,12 +55,3 @@ loop-s-preserved c =
     λ j l. share_long cs ls j r.consumption.long r.losses.long (omega (arith, c.requires.shares_len_bound.0)) (are_all a.kinds) (atZ zs j) in
     parts_step _ (length zs) five a.cells.now at-loop.invariant (omega arith) (omega (arith, c.requires.shares_len_bound.0, c.requires.shares_len_bound.1)) k
     (c.spread.ensures ∙ ap₂ (λ z ws. prorateZ z (or_kind_1 ws) kinds) (back (c.requires.ws_value.1 i) (omega arith)) c.kind_weights.ensures.value)
-
-pub shape_of-cells : goal.shape_of-cells
-shape_of-cells c = c.loop-s.invariant.long
-
-pub returns : goal.returns
-returns c =
-    let a = c.args in
-    let e : c.loop-s.s ≡ length a.shares.now = omega arith in
-    c.loop-s.invariant.is ∙ ap (λ n. balances_of (are_all a.kinds) a.offtakes.now.consumption.now a.offtakes.now.losses.now a.shares.now n ++ drop (5 * n) a.cells.now) e

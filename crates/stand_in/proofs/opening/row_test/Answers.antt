@@ -42,9 +42,6 @@ size-weight_sum-requires c =
     let u = c.requires.usable in
     rw (sum_kept _ _ _ u l.users_len l.amounts_len (rw c.part_of-amounts.ensures at c.sum_of.ensures)) (sum_safe _ _ _ u l.users_len l.amounts_len)
 
-pub overflow_cast-net : goal.overflow_cast-net
-overflow_cast-net c = omega (arith, c.requires.usable.net)
-
 pub share_out-requires : goal.share_out-requires
 share_out-requires c =
     let l = c.args.rows.now in

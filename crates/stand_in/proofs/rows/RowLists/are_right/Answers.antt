@@ -6,9 +6,6 @@ use Rattle.stand_in.specs.Rows.{rows}
 use Rattle.stand_in.proofs.rows.Rows.{row_is_right, row_too_long, all_right, one_wrong}
 use Rattle.stand_in.proofs.rows.RowLists.are_right.Goals as goal
 
-pub loop-i-init : goal.loop-i-init
-loop-i-init c k l = absurd (omega arith)
-
 pub returns-then-self-i-gt-USERS : goal.returns-then-self-i-gt-USERS
 returns-then-self-i-gt-USERS c =
     let a = c.args in
