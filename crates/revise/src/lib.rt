@@ -57,7 +57,7 @@ pub fn revise_test<'a>(
     if columns::any_negative(&column[..n]) {
         return Err(Refusal::NegativeWeight);
     }
-    let weight_sum = numbers::size(state.sum);
+    let weight_sum = state.sum.unsigned_abs();
     let users = &state.users[..n];
     assignment::assign(amount, weight_sum, users, revision, column)?;
     Ok(Revision::Assigned(amount))

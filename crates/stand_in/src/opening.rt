@@ -48,7 +48,7 @@ pub fn row_test(net: u64, row: usize, rows: &RowLists, shares: &mut [i64]) -> Re
     if columns::any_negative(amounts) {
         return Err(Refusal::NegativeWeight);
     }
-    let weight_sum = numbers::size(numbers::sum_of(amounts));
+    let weight_sum = numbers::sum_of(amounts).unsigned_abs();
     shares::share_out(net as i64, users, amounts, weight_sum, shares);
     if taken::wholes_too_large(shares) {
         return Err(Refusal::AmountTooLarge);

@@ -18,7 +18,7 @@ use Rattle.point_day.specs.Struct.{padded, outcome}
 use Rattle.taken.proofs.Facts.{known_few, known_measurement}
 use Rattle.taken.specs.Tested.{any_large}
 use Rattle.revise.specs.Revisions.{outstanding}
-use Rattle.revise.proofs.outstanding.Columns.{open_is, users_long, apart, filled, held_right, held_safe, outstanding_is, wholes_are, wholes_long, wholes_reach, numbered_are, numbered_small, weights_sum, shares_are, revisions_small}
+use Rattle.revise.proofs.outstanding.Columns.{open_is, users_long, apart, filled, held_right, outstanding_is, wholes_are, wholes_long, wholes_reach, numbered_are, numbered_small, weights_sum, shares_are, revisions_small}
 use Rattle.revise.proofs.Revising.{revise_1, revise_within, revise_11, revise_12, revise_done}
 use Rattle.revise.proofs.revise_test.Goals as goal
 
@@ -52,9 +52,6 @@ returns-then-any_negative c d k z =
     let n = sym (ap negative (wholes_are k c.requires.1)) ∙ sym c.any_negative.ensures in
     revise_11 d k.sized k.is_taken c.args.tolerance (open_is k ∙ sym c.if-not-is_revisable.ensures) (m ∙ c.if-size_at_most.false) (n ∙ c.if-any_negative.true)
 
-pub size-weight_sum-requires : goal.size-weight_sum-requires
-size-weight_sum-requires c = held_safe c.requires.0.holds.known
-
 pub shared_ref_as_front-users : goal.shared_ref_as_front-users
 shared_ref_as_front-users c = known_few c.requires.0.holds.known
 
@@ -67,7 +64,7 @@ assign-requires c =
     let l : length c.args.state.now.wholes ≡ USERS = search rules in
     record {
       amount = rw (back r (lit< tt)) r;
-      sum = c.size-weight_sum.ensures ∙ weights_sum k c.requires.1 n;
+      sum = c.unsigned_abs-weight_sum.ensures.value ∙ weights_sum k c.requires.1 n;
       some = omega (arith, u, filled k (both_snd (provisional c.args.state.now.stage) _ (sym c.if-not-is_revisable.ensures)));
       few = omega (arith, u, known_few k);
       apart = apart k;

@@ -9,7 +9,7 @@ use Rattle.numbers.proofs.Amounts.{back, widen}
 use Rattle.point_day.specs.Limits.{USERS, LIMIT}
 use Rattle.point_day.specs.Calls.{negative}
 use Rattle.columns.proofs.Shared.{sizes_sum}
-use Rattle.stand_in.proofs.opening.Standing.{count_few, users_few, users_some, same_long, amounts_small, sum_safe, sum_kept, row_negative, row_large, row_passes}
+use Rattle.stand_in.proofs.opening.Standing.{count_few, users_few, users_some, same_long, amounts_small, sum_kept, row_negative, row_large, row_passes}
 use Rattle.stand_in.proofs.opening.row_test.Goals as goal
 
 pub part_of-users-requires : goal.part_of-users-requires
@@ -36,12 +36,6 @@ sum_of-requires c =
     rw c.part_of-amounts.ensures
     (omega (arith, same_long _ _ _ u l.users_len l.amounts_len, users_few _ _ _ u l.users_len l.amounts_len), λ i. widen (amounts_small _ _ _ u l.users_len l.amounts_len i) (lit≤ tt))
 
-pub size-weight_sum-requires : goal.size-weight_sum-requires
-size-weight_sum-requires c =
-    let l = c.args.rows.now in
-    let u = c.requires.usable in
-    rw (sum_kept _ _ _ u l.users_len l.amounts_len (rw c.part_of-amounts.ensures at c.sum_of.ensures)) (sum_safe _ _ _ u l.users_len l.amounts_len)
-
 pub share_out-requires : goal.share_out-requires
 share_out-requires c =
     let l = c.args.rows.now in
@@ -59,7 +53,7 @@ share_out-requires c =
         amounts_small _ _ _ u l.users_len l.amounts_len,
       );
       weight_sum_value = (
-        c.size-weight_sum.ensures ∙ ap nat_abs (sum_kept _ _ _ u l.users_len l.amounts_len (rw c.part_of-amounts.ensures at c.sum_of.ensures)) ∙ sizes_sum _ above,
+        c.unsigned_abs-weight_sum.ensures.value ∙ ap nat_abs (sum_kept _ _ _ u l.users_len l.amounts_len (rw c.part_of-amounts.ensures at c.sum_of.ensures)) ∙ sizes_sum _ above,
         omega (arith, few, ap length c.requires.zeros, length-replicate USERS (pos 0)),
       );
     }
