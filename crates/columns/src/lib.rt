@@ -9,7 +9,6 @@ ghost use Rattle.numbers.specs.Lists.{every};
 ghost use Rattle.numbers.specs.Amounts.{Within};
 ghost use Rattle.point_day.specs.Limits.{AMOUNT};
 ghost use Rattle.point_day.specs.Day.{no_more};
-ghost use Rattle.point_day.specs.Calls.{negative};
 ghost use Rattle.columns.specs.Summable.{SUMMABLE};
 
 use point_day::AMOUNT;
@@ -32,13 +31,6 @@ pub fn sizes_of(amounts: &[i64], sizes: &mut [u64])
     for i in 0..amounts.len() {
         sizes[i] = amounts[i].unsigned_abs();
     }
-}
-
-// Refusal 11: whether a weight is negative.
-pub fn any_negative(amounts: &[i64]) -> bool
-    ensures { result ≡ negative amounts.now }
-{
-    amounts.iter().any(|x| x.is_negative())
 }
 
 // Whether every amount is at most the limit in size.

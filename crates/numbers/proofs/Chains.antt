@@ -1,6 +1,6 @@
 -- What a chain of iterators answers, in the words of `Lists` and `Sums`. Assumes nothing.
-use Rattle.std.proofs.Common.{◌≡◌, refl, ap, ◌∙◌, Bool, true, false, not, ◌&&◌, ◌||◌, ap₂, sym, eqb, List, [], ◌∷◌, ℕ, ◌+◌, ◌*◌, ◌≤◌, ◌<◌, zero, suc, length, arith}
-use Rattle.std.specs.List.{list_all, list_any, fold, sum, AllWithin, HoldsAt}
+use Rattle.std.proofs.Common.{◌≡◌, refl, ap, ◌∙◌, Bool, true, false, not, ◌||◌, ap₂, sym, eqb, List, [], ◌∷◌, ℕ, ◌+◌, ◌*◌, ◌≤◌, ◌<◌, zero, suc, length, arith}
+use Rattle.std.specs.List.{list_any, fold, sum, AllWithin, HoldsAt}
 use Rattle.std.specs.Int.{from_bool}
 use native.Mathlib.Nat.{suc-mul}
 use mathlib.Core.Logic.{⊎_elim}
@@ -11,19 +11,9 @@ use Rattle.std.specs.Bool.{MatchBool}
 use Rattle.numbers.specs.Lists.{both, either, every, has}
 use Rattle.numbers.specs.Sums.{bit, total, Bounded}
 
-both_is_and : (p q : Bool) → (p && q) ≡ both p q
-both_is_and true q = refl
-both_is_and false q = refl
-
 either_is_or : (p q : Bool) → (p || q) ≡ either p q
 either_is_or true q = refl
 either_is_or false q = refl
-
--- `all`
-pub every_is_all : {A : Type 0} (p : A → Bool) (xs : List A) → every p xs ≡ list_all p xs
-unfolding every
-every_is_all p [] = refl
-every_is_all p (x ∷ xs) = sym (both_is_and (p x) (list_all p xs) ∙ ap (both (p x)) (sym (every_is_all p xs)))
 
 -- the cases of `all`, as `cases_from_all` of std gives them
 pub every_from_all : {A : Type 0} (p : A → Bool) (xs : List A) (r : Bool)

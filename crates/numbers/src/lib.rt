@@ -2,9 +2,10 @@
 #![tactic(auto)]
 
 ghost use Rattle.numbers.specs.Refusals.{Numbers};
-ghost use Rattle.std.specs.Prelude.{◌≡◌, false, ℕ, ◌≤◌, ◌<◌, leb, eqb, pos, nat_abs, ◌+ℤ◌, ◌-ℤ◌, length, replicate};
+ghost use Rattle.std.specs.Prelude.{◌≡◌, false, not, ℕ, ◌≤◌, ◌<◌, leb, pos, nat_abs, ◌+ℤ◌, ◌-ℤ◌, length, replicate};
 ghost use Rattle.numbers.specs.Sums.{atZ, totalZ};
 ghost use Rattle.numbers.specs.Amounts.{SAFE, Within, Between, Decides, is_negative, signed};
+ghost use Rattle.numbers.specs.Lists.{every};
 ghost use Rattle.numbers.specs.Nearest.{nearest};
 ghost use Rattle.numbers.specs.Buckets.{BUCKETS};
 
@@ -67,53 +68,6 @@ impl From<Refusal> for u8 {
     }
 }
 
-// ---- the table of document 01, section "Refusals"
-
-// "the stage doesn't take the call, or a stand-in finds a user joined"
-pub const WRONG_STAGE: u8 = 1;
-
-// "a value or list outside its stated range"
-pub const OUT_OF_RANGE: u8 = 2;
-
-// "line for a user not joined"
-pub const NOT_JOINED: u8 = 3;
-
-// "user already joined"
-pub const ALREADY_JOINED: u8 = 4;
-
-// "all 64 users joined"
-pub const ALL_JOINED: u8 = 5;
-
-// "point-day sum, or a computed consumption, above 1,000,000,000; Type 2 product above 10^12 Wh"
-pub const ABOVE_LIMIT: u8 = 6;
-
-// "allot or stand-in unmeasured"
-pub const UNMEASURED: u8 = 7;
-
-// "allot with no user"
-pub const NO_USER: u8 = 8;
-
-// "stand-in with net at most 100"
-pub const NET_TOO_LOW: u8 = 9;
-
-// "no pair in fifteen rows"
-pub const NO_PAIR: u8 = 10;
-
-// "a weight is negative (revise outside tolerance, stand-in, reading split)"
-pub const NEGATIVE_WEIGHT: u8 = 11;
-
-// "a whole amount would pass 2,000,000,000 in size"
-pub const AMOUNT_TOO_LARGE: u8 = 12;
-
-// "day file malformed"
-pub const MALFORMED: u8 = 13;
-
-// "lent buffer under five numbers a row (inventory) or one a day (reading split)"
-pub const SHORT_BUFFER: u8 = 14;
-
-// "no basis for an estimate"
-pub const NO_BASIS: u8 = 15;
-
 // ---- numbers
 
 // An array of one value. (A call, so that no proof above sees its elements one by one.)
@@ -136,28 +90,6 @@ pub fn nearest(n: u64, d: u64) -> u64
     q + 1
 }
 
-// Whether x is below 0.
-pub fn is_negative(x: i64) -> bool
-    ensures { result ≡ is_negative x }
-{
-    x.is_negative()
-}
-
-// Whether x is 0.
-pub fn is_zero(x: i64) -> bool
-    ensures { result ≡ eqb (nat_abs x) 0 }
-{
-    x == 0
-}
-
-// The size of x.
-pub fn size(x: i64) -> u64
-    requires { Within SAFE x }
-    ensures { result ≡ nat_abs x }
-{
-    x.unsigned_abs()
-}
-
 // The size with a sign.
 pub fn with_sign(negative: bool, size: u64) -> i64
     requires { size ≤ SAFE }
@@ -175,7 +107,7 @@ pub fn size_at_most(x: i64, limit: u64) -> bool
     x.unsigned_abs() <= limit
 }
 
-// The sum of two amounts.
+// The sum of two amounts. (A call, so that a proof above reads the sum and not its 64 bits.)
 pub fn plus(x: i64, y: i64) -> i64
     requires { Within SAFE x × Within SAFE y }
     ensures { result ≡ x +ℤ y }
@@ -183,12 +115,19 @@ pub fn plus(x: i64, y: i64) -> i64
     x + y
 }
 
-// The difference of two amounts.
+// The difference of two amounts. (A call, for the same reason.)
 pub fn minus(x: i64, y: i64) -> i64
     requires { Within SAFE x × Within SAFE y }
     ensures { result ≡ x -ℤ y }
 {
     x - y
+}
+
+// Whether an amount is below 0.
+pub fn any_negative(xs: &[i64]) -> bool
+    ensures { result ≡ not (every (λ x. not (is_negative x)) xs.now) }
+{
+    xs.iter().any(|x| x.is_negative())
 }
 
 // The sum of up to a million amounts of at most 10^12 in size.

@@ -54,7 +54,7 @@ pub fn revise_test<'a>(
     if numbers::size_at_most(amount, tolerance) {
         return Ok(Revision::Within(amount));
     }
-    if columns::any_negative(&column[..n]) {
+    if numbers::any_negative(&column[..n]) {
         return Err(Refusal::NegativeWeight);
     }
     let weight_sum = state.sum.unsigned_abs();

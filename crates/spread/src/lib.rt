@@ -58,7 +58,7 @@ pub fn spread(reading: u64, weights: &[i64], out: &mut [i64]) -> Result<(), Refu
     if !is_in_range(reading, weights) {
         return Err(Refusal::OutOfRange);
     }
-    if columns::any_negative(weights) {
+    if numbers::any_negative(weights) {
         return Err(Refusal::NegativeWeight);
     }
     if out.len() < weights.len() {

@@ -45,7 +45,7 @@ pub fn row_test(net: u64, row: usize, rows: &RowLists, shares: &mut [i64]) -> Re
 {
     let users = rows::part_of(rows.counts, rows.users, row);
     let amounts = rows::part_of(rows.counts, rows.amounts, row);
-    if columns::any_negative(amounts) {
+    if numbers::any_negative(amounts) {
         return Err(Refusal::NegativeWeight);
     }
     let weight_sum = numbers::sum_of(amounts).unsigned_abs();
