@@ -1,0 +1,14 @@
+-- `split::largest_remainder::prorate` meets its contract: of weights that are all 0 each counts as 1. Assumes nothing.
+use Rattle.proration.proofs.Prorated.{from_none, from_some}
+use Rattle.std.proofs.Common.{arith}
+use Rattle.split.proofs.largest_remainder.prorate.Goals as goal
+
+pub returns-then-weight_sum-eq0 : goal.returns-then-weight_sum-eq0
+returns-then-weight_sum-eq0 g c =
+    let a = c.args in
+    from_none a.amount a.ws.now a.keys.now a.shares.now (omega arith) c.split_evenly.ensures
+
+pub returns-else-weight_sum-eq0 : goal.returns-else-weight_sum-eq0
+returns-else-weight_sum-eq0 g c =
+    let a = c.args in
+    from_some a.amount a.ws.now a.keys.now a.shares.now (omega arith) c.split_counted.ensures
