@@ -6,8 +6,8 @@ ghost use Rattle.point_day.specs.Limits.{USERS};
 ghost use Rattle.point_day.specs.Day.{measurement_right};
 ghost use Rattle.point_day.specs.Struct.{taken};
 
-use console::input::{Input, MOST_LENT, Number};
-use console::{Program, Stop, input, output};
+use console::input::{Input, MOST_LENT, Number, at_most, lent_numbers};
+use console::{Program, Stop, output};
 use day_report::REPORT_ROOM;
 use point_day::{Accepted, Answer, KINDS, Measurement, Outcome, PointDay, Stage};
 use std::io;
@@ -30,18 +30,18 @@ fn print_answer<W: Write>(out: &mut W, name: &str, answer: Answer) -> io::Result
 
 // ---- show
 
-fn print_stage<W: Write>(out: &mut W, stage: Stage) -> io::Result<()> {
+fn stage_name(stage: Stage) -> &'static str {
     match stage {
-        Stage::Provisional => write!(out, "day provisional"),
-        Stage::FinalProvisional => write!(out, "day final-provisional"),
-        Stage::FinalDefinitive => write!(out, "day final-definitive"),
+        Stage::Provisional => "provisional",
+        Stage::FinalProvisional => "final-provisional",
+        Stage::FinalDefinitive => "final-definitive",
     }
 }
 
 fn print_measurement<W: Write>(out: &mut W, measurement: Option<Measurement>) -> io::Result<()>
     requires { measurement_right measurement ≡ true }
 {
-    if !state::is_measured(measurement) {
+    if measurement.is_none() {
         return writeln!(out, " unmeasured");
     }
     let net = state::net(measurement);
@@ -67,9 +67,9 @@ fn print_user<W: Write>(out: &mut W, day: &PointDay, slot: usize) -> io::Result<
 fn print_taken<W: Write>(out: &mut W, day: &PointDay) -> io::Result<()>
     requires { taken day.now ≡ true }
 {
-    print_stage(out, day.stage)?;
+    let stage = stage_name(day.stage);
     let entered = if day.allotted { "allotted" } else { "entering" };
-    write!(out, " {entered} {}", day.count)?;
+    write!(out, "day {stage} {entered} {}", day.count)?;
     print_measurement(out, day.measurement)?;
     for slot in 0..day.count {
         print_user(out, day, slot)?;
@@ -181,8 +181,8 @@ impl Calls {
         ensures { length input.new ≤ length input.old }
     {
         let count = u16::read(input)?;
-        let n = input::at_most(count.into(), MOST_LENT)?;
-        let mut lent = input::lent_numbers();
+        let n = at_most(count.into(), MOST_LENT)?;
+        let mut lent = lent_numbers();
         print_inventory(out, self.day, &mut lent[..n])?;
         Ok(())
     }

@@ -15,7 +15,7 @@ pub const MOST_LENT: usize = 2000;
 pub struct Malformed;
 
 // What is still to be read of an input.
-#[derive(Clone, Drop)]
+#[derive(Drop)]
 pub struct Input<'a> {
     rest: &'a [u8],
 }
@@ -120,6 +120,7 @@ pub trait Number: Copy {
         ensures onward { length input.new ≤ length input.old };
 }
 
+// (An impl for each type: the gate takes none that a macro of the repository writes.)
 impl Number for u8 {
     ghost size = { 1 };
 

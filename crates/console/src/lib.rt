@@ -43,7 +43,8 @@ pub trait Program {
         ensures { OnOk result (length input.new < length input.old) };
 }
 
-// Reads until the room is full or the input ends, and answers how many bytes it put there.
+// Reads until the room is full or the input ends, and answers how many bytes it put there. (A loop by hand: the library fills a Vec, or the
+// whole of a slice.)
 pub fn read_full<R: Read>(input: &mut R, room: &mut [u8]) -> io::Result<usize>
     ensures { ReadsAtMost result room.new }
 {

@@ -5,8 +5,8 @@
 ghost use Rattle.std.specs.Prelude.{◌≤◌, length};
 
 use calendar::DayType;
-use console::input::{Input, MOST_LENT, Malformed, Number};
-use console::{Program, Stop, input, output};
+use console::input::{Input, MOST_LENT, Malformed, Number, at_most, lent_numbers};
+use console::{Program, Stop, output};
 use months::MonthFigures;
 use numbers::Refusal;
 use std::io::{Read, Write};
@@ -122,7 +122,7 @@ fn type_2(input: &mut Input) -> Result<Result<u64, Refusal>, Malformed>
     let profile = u64::read(input)?;
     let g = u32::read(input)?;
     let winters = u8::read(input)?;
-    input::at_most(winters.into(), MOST_WINTERS)?;
+    at_most(winters.into(), MOST_WINTERS)?;
     let first = read_winter(input, 0 < winters, &mut first_room)?;
     let second = read_winter(input, 1 < winters, &mut second_room)?;
     for _ in 2..winters {
@@ -202,8 +202,8 @@ fn spread<W: Write>(out: &mut W, input: &mut Input) -> Result<(), Stop>
     let reading = u64::read(input)?;
     let weights = read_list::<u16, i64>(input, &mut room)?;
     let count = u16::read(input)?;
-    let n = input::at_most(count.into(), MOST_LENT)?;
-    let mut lent = input::lent_numbers();
+    let n = at_most(count.into(), MOST_LENT)?;
+    let mut lent = lent_numbers();
     print_spread(out, reading, weights, &mut lent[..n])?;
     Ok(())
 }

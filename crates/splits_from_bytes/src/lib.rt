@@ -4,8 +4,8 @@
 
 ghost use Rattle.std.specs.Prelude.{◌≤◌, length};
 
-use console::input::{Input, Malformed, Number};
-use console::{Program, Stop, input};
+use console::input::{Input, Malformed, Number, at_most};
+use console::{Program, Stop};
 use proration::PARTIES;
 use std::io;
 use std::io::{Read, Write};
@@ -59,7 +59,7 @@ impl Program for Splits {
     fn step<W: Write>(&mut self, out: &mut W, input: &mut Input) -> Result<(), Stop> {
         let amount = i64::read(input)?;
         let count = u16::read(input)?;
-        let n = input::at_most(count.into(), PARTIES)?;
+        let n = at_most(count.into(), PARTIES)?;
         let mut weights = numbers::repeat::<_, PARTIES>(0);
         let mut keys = numbers::repeat::<_, PARTIES>(0);
         let mut shares = numbers::repeat::<_, PARTIES>(0);
