@@ -29,11 +29,7 @@ pub struct LineEffect {
 
 // The tests of a line on a taken point-day that is entering, of whose users this one stands at `slot`, if it has joined; `offtake` is all
 // consumption and losses.
-pub fn slot_test(
-    slot: Option<usize>,
-    offtake: u64,
-    entry: LineEntry,
-) -> Result<LineEffect, Refusal>
+pub fn slot_test(slot: Option<usize>, offtake: u64, entry: LineEntry) -> Result<LineEffect, Refusal>
     requires { IfSome slot (λ s. s < USERS) × (offtake ≤ LIMIT) }
     ensures { (us : List ℕ) (count : ℕ) (d : PointDay) → Stands us count offtake d → SlotOf entry.user (take count us) slot → Tested entry.user entry.kind entry.consumption entry.coefficient d result }
 {

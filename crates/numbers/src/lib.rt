@@ -130,7 +130,7 @@ pub fn any_negative(xs: &[i64]) -> bool
     xs.iter().any(|x| x.is_negative())
 }
 
-// The sum of up to a million amounts of at most 10^12 in size.
+// The sum of up to a million amounts of at most 10^12 in size. (A loop: a signed `sum` has no bound that a proof could use.)
 pub fn sum_of(xs: &[i64]) -> i64
     requires { (length xs.now ≤ 1000000) × ((i : ℕ) → Within 1000000000000 (atZ xs.now i)) }
     ensures { result ≡ totalZ xs.now }
@@ -142,7 +142,7 @@ pub fn sum_of(xs: &[i64]) -> i64
     s
 }
 
-// Whether every amount from a place on lies in low to high.
+// Whether every amount from a place on lies in low to high. (A loop: the contract speaks of places, and a chain of items.)
 pub fn all_between(xs: &[i64], from: usize, low: i64, high: i64) -> bool
     ensures { Decides result ((i : ℕ) → from ≤ i → i < length xs.now → Between low high (atZ xs.now i)) }
 {
@@ -154,7 +154,7 @@ pub fn all_between(xs: &[i64], from: usize, low: i64, high: i64) -> bool
     true
 }
 
-// Whether every amount from a place on is 0: their bits are gathered, and tested once.
+// Whether every amount from a place on is 0: their bits are gathered, and tested once. (A loop without an early end, which is faster.)
 pub fn all_zero(xs: &[i64], from: usize) -> bool
     ensures { Decides result ((i : ℕ) → from ≤ i → i < length xs.now → Between (pos 0) (pos 0) (atZ xs.now i)) }
 {

@@ -46,7 +46,8 @@ pub struct Measurement {
     pub downstream: u64,
 }
 
-// One point on one gas day. The users stand in the order in which they joined; kind k of slot s is cell KINDS s + k - 1.
+// One point on one gas day, in fixed memory: it goes by value, so it holds arrays and a count. The users stand in the order in which they
+// joined; kind k of slot s is cell KINDS s + k - 1.
 #[derive(Clone, Copy)]
 pub struct PointDay {
     pub stage: Stage,
@@ -60,7 +61,8 @@ pub struct PointDay {
     pub revision: [i64; USERS],
 }
 
-// The rows of a stand-in: how many pairs each has; user and amount of pair j of row i stand at USERS i + j.
+// The rows of a stand-in in three lists, as callers in other languages lend them: how many pairs each has; user and amount of pair j of
+// row i stand at USERS i + j.
 #[derive(Clone, Copy)]
 pub struct StandInRows {
     pub counts: [usize; ROWS],
@@ -106,26 +108,6 @@ pub fn accept(accepted: Accepted, next: PointDay) -> Outcome
         answer: Ok(accepted),
         day: next,
     }
-}
-
-// Arrays of zeros: user numbers, amounts of users and kinds, amounts of users. (Calls, so that no proof above sees their elements one by
-// one.)
-pub fn no_users() -> [u16; USERS]
-    ensures { result ≡ replicate USERS 0 }
-{
-    [0; USERS]
-}
-
-pub fn no_cells() -> [i64; CELLS]
-    ensures { result ≡ replicate CELLS (pos 0) }
-{
-    [0; CELLS]
-}
-
-pub fn no_amounts() -> [i64; USERS]
-    ensures { result ≡ replicate USERS (pos 0) }
-{
-    [0; USERS]
 }
 
 // A fresh point-day.

@@ -3,8 +3,8 @@ ghost use Rattle.std.specs.Prelude.{◌≡◌, ◌<◌, ◌≤◌, ◌++◌, len
 ghost use Rattle.numbers.specs.Sums.{total, Bounded};
 ghost use Rattle.proration.specs.Proration.{PARTIES, LARGEST_AMOUNT, LARGEST_WEIGHT, split, prorate};
 
-use super::leftover;
-use proration::Parties;
+use super::leftover::{self, FEW};
+use proration::{PARTIES, Parties};
 
 // The shares of the amount over weights whose sum, `weight_sum`, is above 0; `rems` is scratch.
 fn split(
@@ -48,9 +48,8 @@ fn split_evenly<const ROOM: usize>(amount: u64, n: usize, keys: &[u64], shares: 
     split_counted::<ROOM>(amount, &ones[..n], n as u64, keys, shares);
 }
 
-// The amount prorated over the weights, whose sum `weight_sum` is handed in: each counts as 1 if all are 0. Numbers of `shares` past
-// the parties stay. There is room for ROOM parties.
-pub(crate) fn prorate<const ROOM: usize>(
+// The amount prorated over up to ROOM weights.
+pub(crate) fn prorate_in<const ROOM: usize>(
     amount: u64,
     ws: &[u64],
     weight_sum: u64,
@@ -65,5 +64,19 @@ pub(crate) fn prorate<const ROOM: usize>(
         split_evenly::<ROOM>(amount, ws.len(), keys, shares);
     } else {
         split_counted::<ROOM>(amount, ws, weight_sum, keys, shares);
+    }
+}
+
+// The amount prorated over the weights, whose sum `weight_sum` is handed in: each counts as 1 if all are 0. Numbers of `shares` past
+// the parties stay.
+pub fn prorate(amount: u64, ws: &[u64], weight_sum: u64, keys: &[u64], shares: &mut [u64])
+    requires amount_bound { (amount ≤ LARGEST_AMOUNT) × (weight_sum ≡ total ws.now) × (0 < length ws.now) × (length ws.now ≤ PARTIES) × Bounded LARGEST_WEIGHT ws.now }
+    requires ws_in_bounds { (length ws.now ≤ length keys.now) × (length ws.now ≤ length shares.old) }
+    ensures { shares.new ≡ prorate amount ws.now keys.now ++ drop (length ws.now) shares.old }
+{
+    if ws.len() <= FEW {
+        prorate_in::<FEW>(amount, ws, weight_sum, keys, shares);
+    } else {
+        prorate_in::<PARTIES>(amount, ws, weight_sum, keys, shares);
     }
 }

@@ -3,7 +3,7 @@
 #![tactic(auto)]
 
 mod keys;
-mod largest_remainder;
+pub mod largest_remainder;
 mod leftover;
 
 ghost use Rattle.std.specs.Prelude.{◌≡◌, ℕ, ◌<◌, ◌≤◌, ◌++◌, length, drop, nat_le};
@@ -14,7 +14,7 @@ ghost use Rattle.numbers.specs.Refusals.{status_of};
 ghost use Rattle.proration.specs.Proration.{PARTIES, LARGEST_AMOUNT, LARGEST_WEIGHT, prorateZ};
 ghost use Rattle.split.specs.Call.{in_range, answer, after};
 
-use largest_remainder::prorate;
+use largest_remainder::prorate_in;
 use leftover::FEW;
 use numbers::Refusal;
 use proration::PARTIES;
@@ -35,7 +35,7 @@ fn give(negative: bool, shares: &[u64], out: &mut [i64])
 }
 
 // The signed shares of the amount over up to ROOM parties, through the shares of its size.
-fn prorate_in<const ROOM: usize>(
+fn signed_in<const ROOM: usize>(
     amount: i64,
     ws: &[u64],
     weight_sum: u64,
@@ -48,7 +48,7 @@ fn prorate_in<const ROOM: usize>(
 {
     let mut room = numbers::repeat::<_, ROOM>(0);
     let shares = &mut room[..ws.len()];
-    prorate::<ROOM>(amount.unsigned_abs(), ws, weight_sum, keys, shares);
+    prorate_in::<ROOM>(amount.unsigned_abs(), ws, weight_sum, keys, shares);
     give(amount.is_negative(), shares, out);
 }
 
@@ -59,9 +59,9 @@ pub fn prorate_signed(amount: i64, ws: &[u64], weight_sum: u64, keys: &[u64], ou
     ensures { out.new ≡ prorateZ amount ws.now keys.now ++ drop (length ws.now) out.old }
 {
     if ws.len() <= FEW {
-        prorate_in::<FEW>(amount, ws, weight_sum, keys, out);
+        signed_in::<FEW>(amount, ws, weight_sum, keys, out);
     } else {
-        prorate_in::<PARTIES>(amount, ws, weight_sum, keys, out);
+        signed_in::<PARTIES>(amount, ws, weight_sum, keys, out);
     }
 }
 

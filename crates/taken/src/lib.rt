@@ -44,7 +44,7 @@ fn head_right(measurement: Option<Measurement>, n: usize, users: &[u16]) -> bool
         && measurement_right(measurement)
 }
 
-// Whether the consumption and losses of each of n users are low.
+// Whether the consumption and losses of each of n users are low. (Not one function with `all_sized`: each is one test of its own arrays.)
 fn all_low(consumption: &[i64], losses: &[i64], n: usize) -> bool
     requires { (n ≤ USERS) × (length consumption.now ≡ CELLS) × (length losses.now ≡ CELLS) }
     ensures { Decides result ((s : ℕ) → s < n → LowSlot consumption.now losses.now s) }

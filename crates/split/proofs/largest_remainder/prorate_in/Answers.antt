@@ -1,7 +1,7 @@
--- `split::largest_remainder::prorate` meets its contract: of weights that are all 0 each counts as 1. Assumes nothing.
+-- `split::largest_remainder::prorate_in` meets its contract: of weights that are all 0 each counts as 1. Assumes nothing.
 use Rattle.proration.proofs.Prorated.{from_none, from_some}
 use Rattle.std.proofs.Common.{arith}
-use Rattle.split.proofs.largest_remainder.prorate.Goals as goal
+use Rattle.split.proofs.largest_remainder.prorate_in.Goals as goal
 
 pub returns-then-weight_sum-eq0 : goal.returns-then-weight_sum-eq0
 returns-then-weight_sum-eq0 g c =

@@ -1,9 +1,9 @@
--- `split::prorate_in` meets its contract: the shares of the size, with the sign. Assumes nothing.
+-- `split::signed_in` meets its contract: the shares of the size, with the sign. Assumes nothing.
 use Rattle.std.proofs.Common.{◌≡◌, ◌∙◌, sym, nat_abs, arith, to_z-of_z}
 use Rattle.numbers.proofs.Amounts.{lt_zero}
 use Rattle.proration.proofs.Prorated.{take_long}
 use Rattle.proration.proofs.Signs.{shares_long, shares_small, signed_are}
-use Rattle.split.proofs.prorate_in.Goals as goal
+use Rattle.split.proofs.signed_in.Goals as goal
 
 pub give-requires : goal.give-requires
 give-requires g c =
@@ -11,7 +11,7 @@ give-requires g c =
     let p = c.requires.within in
     let e : c.unsigned_abs.result ≡ nat_abs a.amount = rw (to_z-of_z c.ranges.amount) at c.unsigned_abs.ensures.value in
     let l = sym (take_long _ _ 0 c.repeat-room.ensures p.3) in
-    (omega (arith, shares_long a.amount a.ws.now a.keys.now p.2 e _ l c.prorate.ensures), λ i. omega (arith, shares_small a.amount a.ws.now a.keys.now p.2 e _ l c.prorate.ensures p.0 i))
+    (omega (arith, shares_long a.amount a.ws.now a.keys.now p.2 e _ l c.prorate_in.ensures), λ i. omega (arith, shares_small a.amount a.ws.now a.keys.now p.2 e _ l c.prorate_in.ensures p.0 i))
 
 pub returns : goal.returns
 returns g c =
@@ -19,4 +19,4 @@ returns g c =
     let p = c.requires.within in
     let f = to_z-of_z c.ranges.amount in
     let e : c.unsigned_abs.result ≡ nat_abs a.amount = rw f at c.unsigned_abs.ensures.value in
-    signed_are a.amount a.ws.now a.keys.now p.2 e _ (sym (take_long _ _ 0 c.repeat-room.ensures p.3)) c.prorate.ensures a.out.now ((rw f at c.is_negative.ensures) ∙ lt_zero a.amount) c.give.ensures
+    signed_are a.amount a.ws.now a.keys.now p.2 e _ (sym (take_long _ _ 0 c.repeat-room.ensures p.3)) c.prorate_in.ensures a.out.now ((rw f at c.is_negative.ensures) ∙ lt_zero a.amount) c.give.ensures
