@@ -29,12 +29,12 @@ pub enum DayType {
     SundayOrHoliday,
 }
 
-// A gas day and the holidays of its calendar, as stated.
+// A gas day and the holidays of its calendar, which rise.
 #[derive(Clone, Copy)]
 pub struct Calendar<'a> {
     pub day: u32,
     pub holidays: &'a [u32],
-    ghost right: { calendar_right day holidays.now ≡ true },
+    ghost rises: { rising holidays.now ≡ true },
 }
 
 // Whether a number is that of a gas day.

@@ -112,7 +112,7 @@ fn read_header(file: &[u8]) -> Header
 }
 
 // The section of pair i, of pairs that begin at a place.
-fn section_at(file: &[u8], pairs: usize, i: usize) -> Section
+pub fn section_at(file: &[u8], pairs: usize, i: usize) -> Section
     requires { pairs + PAIR * (i + 1) ≤ length file.now }
     ensures { (result ≡ section_from file.now pairs i) × (result.offset < 4294967296) × (result.size < 4294967296) }
 {

@@ -54,7 +54,7 @@ pub fn stand_in_test<'a>(
     if net <= tolerance {
         return Err(Refusal::NetTooLow);
     }
-    let Some(row) = rows.nearest_filled() else {
+    let Some(row) = rows::nearest_filled(counts) else {
         return Err(Refusal::NoPair);
     };
     opening::row_test(net, row, &rows, shares)?;

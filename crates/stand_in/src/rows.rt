@@ -77,13 +77,14 @@ impl<'a> RowLists<'a> {
         }
         true
     }
+}
 
-    // The nearest row with any pair, from 0.
-    pub fn nearest_filled(&self) -> Option<usize>
-        ensures { NearestFilled self.now.counts.now result }
-    {
-        self.counts.iter().position(|&n| n != 0)
-    }
+// The nearest row with any pair, from 0.
+pub fn nearest_filled(counts: &[usize]) -> Option<usize>
+    requires { length counts.now ≡ ROWS }
+    ensures { NearestFilled counts.now result }
+{
+    counts.iter().position(|&n| n != 0)
 }
 
 // The user numbers of a row.
