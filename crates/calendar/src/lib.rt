@@ -34,7 +34,7 @@ pub enum DayType {
 pub struct Calendar<'a> {
     pub day: u32,
     pub holidays: &'a [u32],
-    ghost rises: { rising holidays.now ≡ true },
+    pub ghost rises: { rising holidays.now ≡ true },
 }
 
 // Whether a number is that of a gas day.
