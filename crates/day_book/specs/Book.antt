@@ -16,7 +16,6 @@ use Rattle.point_day.specs.declared.Measurement.{Measurement}
 use Rattle.day_book.specs.Calls.{Call, join, line, lent_line, measure, allot, stand_in, revise, start_final, Calls, none, ◌then◌}
 use Rattle.day_book.specs.Calls.{Line, a_line, by_call}
 use Rattle.std.specs.Prelude.{Option, None, Some}
-use Rattle.point_day.specs.Day.{metered}
 
 -- ---- its numbers, apart from those of the calls
 
@@ -186,7 +185,7 @@ with_line l b = with_lines (l ∷ b.lines) b
 -- ---- Measure: "the latest counts"
 
 unfoldable pub measured : ℕ → ℕ → Book → Book
-measured emission downstream b = with_measurement (metered emission downstream) b
+measured emission downstream b = with_measurement (Some (record { emission = emission; downstream = downstream })) b
 
 -- ---- Allot
 
