@@ -1,5 +1,5 @@
--- While a day file is entered: the point-day that lent arrays stand for, and what calls on it come to: the contracts of the functions that
--- enter a line, a section and all sections. Assumes nothing. No exported contract leans on it.
+-- While a day file is entered: the point-day that its arrays stand for, how the lines of a section enter it, and those of all sections.
+-- Assumes nothing. No exported contract leans on it.
 use Rattle.std.specs.Prelude.{◌≡◌, true, false, List, ◌++◌, ℕ, ℤ, pos, length, replicate, Result, Ok, Err}
 use Rattle.numbers.specs.Refusals.{number_of}
 use Rattle.numbers.specs.declared.Refusal.{Refusal}

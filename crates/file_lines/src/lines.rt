@@ -27,6 +27,7 @@ pub fn read_line(file: &[u8], at: usize, user: u16) -> LineEntry
 }
 
 // The arrays of a point-day that a day file enters: its users' numbers, their consumption and losses by slot and kind, and the sum of both.
+// (Arrays side by side, as a point-day has them.)
 #[derive(Drop)]
 pub struct Entering {
     pub users: [u16; USERS],

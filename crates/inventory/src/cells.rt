@@ -7,7 +7,7 @@ ghost use Rattle.inventory.specs.Cells.{cells, row_count};
 use super::row::{self, UserKind};
 use point_day::KINDS;
 
-// The amounts of a point-day's cells.
+// The amounts of a point-day's cells. (Lists side by side, as a point-day has them.)
 #[derive(Clone, Copy)]
 pub struct Amounts<'a> {
     pub consumption: &'a [i64],

@@ -9,7 +9,8 @@ ghost use Rattle.state.specs.Places.{more};
 use numbers::Refusal;
 use point_day::{CELLS, COEFFICIENT, KINDS, LIMIT, PARTS, USERS};
 
-// The arguments of a line: a user and a kind, their consumption in kWh, and the losses on it in hundred-thousandths.
+// The arguments of a line: a user and a kind, their consumption in kWh, and the losses on it in hundred-thousandths. (The kind is a number:
+// the call refuses one that is none, in its place among the tests.)
 #[derive(Clone, Copy, Debug, PartialEq, Eq)]
 pub struct LineEntry {
     pub user: u16,

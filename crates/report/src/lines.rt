@@ -34,7 +34,7 @@ fn of_slot(xs: &[i64; CELLS], slot: usize) -> i64
 }
 
 // What a report tells of a point-day's users, by slots: how many there are, their numbers, what lines left of each kind, and their shares of
-// the balance.
+// the balance. (Whole arrays and a count, as a point-day has them.)
 #[derive(Clone, Copy)]
 pub struct Slots<'a> {
     pub count: usize,

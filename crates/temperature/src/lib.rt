@@ -98,7 +98,8 @@ pub struct Winters<'a> {
 }
 
 impl<'a> Winters<'a> {
-    // One or two winters, refused if they are not as stated. (The second is looked at if there are two.)
+    // One or two winters, refused if they are not as stated. (The second is looked at if there are two.
+    // The count is a number: the call refuses one that is neither, so no type rules it out.)
     #[tactic(auto, unfolding(crate::specs::Temperature::winters_right, crate::specs::Temperature::winters_mean))]
     pub fn of(count: u8, first: &'a [u32], second: &'a [u32]) -> Result<Winters<'a>, Refusal>
         ensures given { IfOk result (λ w. (winters_right count first.now second.now ≡ true) × (average w.first.now w.second ≡ winters_mean count first.now second.now)) }
