@@ -20,8 +20,8 @@ use rows::RowLists;
 use taken::State;
 
 // The tests of a stand-in whose rows stand in three lists, on a taken point-day of which `state` is the test: the place of the row that is
-// used, from 0. If they pass, a column of zeros becomes the shares of the row's users. (The lists come one by one: those of other lengths
-// are refused in their place among the tests.)
+// used, from 0. If they pass, a column of zeros becomes the shares of the row's users. (The lists come one by one, not as `RowLists`, which
+// have the lengths of rows: those of other lengths are refused in their place among the tests.)
 pub fn stand_in_test<'a>(
     state: &State,
     counts: &'a [usize],

@@ -49,7 +49,8 @@ pub fn rows_readable<'a>(counts: &'a [usize], users: &'a [u16], amounts: &'a [i6
     counts.len() == ROWS && users.len() == PAIRS && amounts.len() == PAIRS
 }
 
-// The rows of a stand-in in three lists: fifteen counts; user number and amount of pair j of row i at 64 × i + j.
+// The rows of a stand-in in three lists: fifteen counts; user number and amount of pair j of row i at 64 × i + j. (Lists, and no array of
+// rows: callers in other languages lend them list by list.)
 #[derive(Clone, Copy)]
 pub struct RowLists<'a> {
     pub counts: &'a [usize],
