@@ -197,13 +197,7 @@ pub fn seatpomelo_inventory<'a>(day: &'a [i64], out: &mut [i64], rows: &mut u64)
 pub fn seatpomelo_day_type(day: u32, holidays: &[u32], day_type: &mut u64) -> u8
     ensures { settled result (day_type.new ∷ []) ≡ settles type_number (type_call day holidays.now) (day_type.old ∷ []) }
 {
-    match calendar::day_type(day, holidays) {
-        Ok(found) => {
-            *day_type = type_number(found);
-            0
-        }
-        Err(refusal) => status(Err(refusal)),
-    }
+    settle(calendar::day_type(day, holidays).map(type_number), day_type)
 }
 
 // The month of a gas day: its first day, its days, the mask of its working days and how many they are.

@@ -33,10 +33,8 @@ fn from_found(found: Found, flows: Flows) -> Result<Estimate, Refusal>
     if found.real {
         return Err(Refusal::NoBasis);
     }
-    match supply::new_consumption(flows) {
-        Some(kwh) => Ok(Estimate { kwh, looked }),
-        None => Err(Refusal::NoBasis),
-    }
+    let kwh = supply::new_consumption(flows).ok_or(Refusal::NoBasis)?;
+    Ok(Estimate { kwh, looked })
 }
 
 // Whether the reading, the user's own value and the contracted flows are in their ranges, or missing.
