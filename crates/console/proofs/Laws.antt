@@ -1,5 +1,5 @@
 -- What the contracts of the reading functions come to on given bytes. Assumes nothing.
-use mathlib.Core.Path.{◌≡◌, refl, ap}
+use mathlib.Core.Path.{◌≡◌, refl, ap, ◌∙◌}
 use mathlib.Core.Bool.{true}
 use mathlib.Core.List.{List, [], ◌∷◌, ◌++◌}
 use Prim.Native.Nat.{ℕ, suc, ◌+◌, ◌*◌, ◌≤◌, ◌<◌}
@@ -48,7 +48,21 @@ pub no_meaning : (r : Result ℕ Malformed) → (IsOk r ↔ (2 ≤ 1)) → IsErr
 no_meaning (Ok x) h = absurd (absent (h.0 (refl {a = true})))
 no_meaning (Err e) h = refl {a = true}
 
--- two numbers of eight bytes where nine are: the first is read
-pub then_cut_short : spelled_in 8 (λ s. signed_64 (little_endian 8 s 0)) (2 ∷ 0 ∷ 0 ∷ 0 ∷ 0 ∷ 0 ∷ 0 ∷ 0 ∷ 7 ∷ []) 1 ≡ pos 2 ∷ []
+-- the clauses of `Input::fill`: a list, of numbers of n bytes that `spelled` gives, filled from `before`, which leaves `after`
+pub record Fills {A U : Type 0} (n : ℕ) (spelled : List ℕ → A) (nought : A) (before : List ℕ) (r : Result U Malformed) (after : List ℕ) (old new : List A) : Type 0 where
+  pub ok : IsOk r ↔ (n * length old ≤ length before)
+  pub value : OnOk r (new ≡ spelled_in n spelled before (length old))
+  pub rest : OnOk r (after ≡ drop (n * length old) before)
+  pub cut_short : OnErr r ((k : ℕ) × (n * k ≤ length before) × (length before < n * (k + 1)) × (after ≡ drop (n * k) before) × (new ≡ spelled_in n spelled before k ++ drop k (table (λ i. nought) (length old))))
+
+-- two numbers of eight bytes where nine are: the first is read, the second is 0, and the ninth byte is left
+pub then_cut_short : {U : Type 0} (r : Result U Malformed) (after : List ℕ) (old new : List ℤ) → length old ≡ 2
+    → Fills 8 (λ s. signed_64 (little_endian 8 s 0)) (pos 0) (2 ∷ 0 ∷ 0 ∷ 0 ∷ 0 ∷ 0 ∷ 0 ∷ 0 ∷ 7 ∷ []) r after old new
+    → IsErr r × (after ≡ 7 ∷ []) × (new ≡ pos 2 ∷ pos 0 ∷ [])
 unfolding spelled_in table little_endian
-then_cut_short = refl
+then_cut_short (Ok x) after old new l h =
+    let e : 8 * length old ≤ 9 = h.ok.0 (refl {a = true}) in absurd (omega (arith, e, l))
+then_cut_short (Err e) after old new l h =
+    let c = h.cut_short in
+    let k : c.0 ≡ 1 = omega (arith, c.1, c.2) in
+    (refl {a = true}, c.3 ∙ rw k refl, c.4 ∙ rw (k, l) refl)

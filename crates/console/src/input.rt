@@ -1,7 +1,7 @@
 // Numbers read from the input one after the other, little-endian, and the buffer lent to a call.
 ghost use Rattle.std.specs.Prelude.{◌≡◌, ◌↔◌, ◌++◌, List, ℕ, ℤ, pos, ◌+◌, ◌*◌, ◌≤◌, ◌<◌, length, take, drop, IsTrue, IsOk, IfOk, OnOk, OnErr};
 ghost use Rattle.std.specs.Int.{w32, cast_signed};
-ghost use Rattle.numbers.specs.Sums.{bit};
+ghost use Rattle.numbers.specs.Sums.{bit, table};
 ghost use Rattle.wire.specs.Bytes.{little_endian, signed_64};
 ghost use Rattle.console.specs.Input.{spelled_in, MOST_LENT, lent};
 
@@ -89,12 +89,24 @@ impl<'a> Input<'a> {
         }
     }
 
-    // Fills the list with the next numbers. Where they are cut short it begins with those that were there.
+    // Fills the list with the next numbers. Where they are cut short it holds those that were there, and then zeros.
     pub fn fill<T: Number>(&mut self, list: &mut [T]) -> Result<(), Malformed>
         ensures ok { IsOk result ↔ (T.size * length list.old ≤ length self.old) }
         ensures value { OnOk result (list.new ≡ spelled_in T.size T.spelled self.old (length list.old)) }
         ensures rest { OnOk result (self.new ≡ drop (T.size * length list.old) self.old) }
-        ensures cut_short { OnErr result ((k : ℕ) × (T.size * k ≤ length self.old) × (length self.old < T.size * (k + 1)) × (list.new ≡ spelled_in T.size T.spelled self.old k ++ drop k list.old)) }
+        ensures cut_short { OnErr result ((k : ℕ) × (T.size * k ≤ length self.old) × (length self.old < T.size * (k + 1)) × (self.new ≡ drop (T.size * k) self.old) × (list.new ≡ spelled_in T.size T.spelled self.old k ++ drop k (table (λ i. T.ZERO) (length list.old)))) }
+        ensures onward { length self.new ≤ length self.old }
+    {
+        clear(list);
+        self.read_all(list)
+    }
+
+    // The next numbers, into the list from its start. What is past a cut stays.
+    fn read_all<T: Number>(&mut self, list: &mut [T]) -> Result<(), Malformed>
+        ensures ok { IsOk result ↔ (T.size * length list.old ≤ length self.old) }
+        ensures value { OnOk result (list.new ≡ spelled_in T.size T.spelled self.old (length list.old)) }
+        ensures rest { OnOk result (self.new ≡ drop (T.size * length list.old) self.old) }
+        ensures cut_short { OnErr result ((k : ℕ) × (T.size * k ≤ length self.old) × (length self.old < T.size * (k + 1)) × (self.new ≡ drop (T.size * k) self.old) × (list.new ≡ spelled_in T.size T.spelled self.old k ++ drop k list.old)) }
         ensures onward { length self.new ≤ length self.old }
     {
         for x in list {
@@ -104,12 +116,25 @@ impl<'a> Input<'a> {
     }
 }
 
+// Zeros in every place.
+fn clear<T: Number>(list: &mut [T])
+    ensures { list.new ≡ table (λ i. T.ZERO) (length list.old) }
+{
+    for x in list {
+        *x = T::ZERO;
+    }
+}
+
 // A number of a fixed size.
 pub trait Number: Copy {
     ghost size: { ℕ };
 
     // What the first bytes of a list spell.
     ghost spelled: { List ℕ → Self };
+
+    const ZERO: Self;
+
+    ghost ZERO: { Self };
 
     // The next number.
     fn read(input: &mut Input) -> Result<Self, Malformed>
@@ -126,6 +151,10 @@ impl Number for u8 {
 
     ghost spelled = { λ s. little_endian 1 s 0 };
 
+    const ZERO: u8 = 0;
+
+    ghost ZERO = { 0 };
+
     fn read(input: &mut Input) -> Result<u8, Malformed> {
         Ok(u8::from_le_bytes(input.chunk()?))
     }
@@ -135,6 +164,10 @@ impl Number for u16 {
     ghost size = { 2 };
 
     ghost spelled = { λ s. little_endian 2 s 0 };
+
+    const ZERO: u16 = 0;
+
+    ghost ZERO = { 0 };
 
     fn read(input: &mut Input) -> Result<u16, Malformed> {
         Ok(u16::from_le_bytes(input.chunk()?))
@@ -146,6 +179,10 @@ impl Number for u32 {
 
     ghost spelled = { λ s. little_endian 4 s 0 };
 
+    const ZERO: u32 = 0;
+
+    ghost ZERO = { 0 };
+
     fn read(input: &mut Input) -> Result<u32, Malformed> {
         Ok(u32::from_le_bytes(input.chunk()?))
     }
@@ -155,6 +192,10 @@ impl Number for u64 {
     ghost size = { 8 };
 
     ghost spelled = { λ s. little_endian 8 s 0 };
+
+    const ZERO: u64 = 0;
+
+    ghost ZERO = { 0 };
 
     fn read(input: &mut Input) -> Result<u64, Malformed> {
         Ok(u64::from_le_bytes(input.chunk()?))
@@ -166,6 +207,10 @@ impl Number for i32 {
 
     ghost spelled = { λ s. cast_signed w32 (little_endian 4 s 0) };
 
+    const ZERO: i32 = 0;
+
+    ghost ZERO = { pos 0 };
+
     fn read(input: &mut Input) -> Result<i32, Malformed> {
         Ok(i32::from_le_bytes(input.chunk()?))
     }
@@ -175,6 +220,10 @@ impl Number for i64 {
     ghost size = { 8 };
 
     ghost spelled = { λ s. signed_64 (little_endian 8 s 0) };
+
+    const ZERO: i64 = 0;
+
+    ghost ZERO = { pos 0 };
 
     fn read(input: &mut Input) -> Result<i64, Malformed> {
         Ok(i64::from_le_bytes(input.chunk()?))

@@ -1,32 +1,27 @@
 use mathlib.Core.Bool.{true}
-use mathlib.Core.Logic.{⊎_elim}
 use mathlib.Core.Path.{◌≡◌, refl, sym, ap, ◌∙◌}
 use mathlib.Core.List.{List, ◌++◌}
 use Prim.Native.Nat.{ℕ, ◌+◌, ◌*◌, ◌≤◌, ◌<◌}
 use native.Mathlib.Omega.{arith}
 use lib.ListN.{drop, length}
 use Rattle.std.specs.Prelude.{Result, Ok, Err, IsOk, IsErr, OnErr}
-use Rattle.std.proofs.Math.Nat.{mul-le-mul_left}
+use Rattle.std.proofs.Math.Nat.{mul-le-mul_left, lt_of_not-le}
 use Rattle.std.proofs.lemmas.List.{drop-drop, set-get_or}
 use Rattle.std.proofs.Common.{length-drop}
 use Rattle.numbers.specs.Sums.{table}
-use Rattle.numbers.proofs.Sums.{lt_or_ge}
 use Rattle.numbers.proofs.Lists.{never}
 use Rattle.numbers.proofs.Filled.{fill_none, fill_step, fill_all}
 use Rattle.console.specs.Input.{spelled_in}
-use Rattle.console.proofs.input.Input.fill.Goals as goal
+use Rattle.console.proofs.input.Input.read_all.Goals as goal
 
 not_both : {T E : Type 0} (r : Result T E) {X : Type 0} → IsOk r → IsErr r → X
 not_both (Ok x) a b = never b
 not_both (Err e) a b = never a
 
-as_far : {A T E : Type 0} (r : Result T E) (xs : List A) (f : ℕ → List A) (size long k : ℕ) → size * k ≤ long → long < size * (k + 1) → xs ≡ f k
-    → OnErr r ((j : ℕ) × (size * j ≤ long) × (long < size * (j + 1)) × (xs ≡ f j))
-as_far (Ok x) xs f size long k l h e = tt
-as_far (Err d) xs f size long k l h e = (k, l, h, e)
-
-shorter : (a b : ℕ) {X : Type 0} → (b ≤ a → X) → (X → a < b) → a < b
-shorter a b h k = ⊎_elim (λ l. l) (λ l. k (h l)) (lt_or_ge a b)
+as_far : {A T E : Type 0} (r : Result T E) (now : List ℕ) (xs : List A) (f : ℕ → List A) (s : List ℕ) (size k : ℕ) → size * k ≤ length s → length s < size * (k + 1) → now ≡ drop (size * k) s → xs ≡ f k
+    → OnErr r ((j : ℕ) × (size * j ≤ length s) × (length s < size * (j + 1)) × (now ≡ drop (size * j) s) × (xs ≡ f j))
+as_far (Ok x) now xs f s size k l h m e = tt
+as_far (Err d) now xs f s size k l h m e = (k, l, h, m, e)
 
 pub loop-x-init : goal.loop-x-init
 loop-x-init g c =
@@ -78,7 +73,8 @@ unfolding spelled_in
 returns-in_err-x-clause-cut_short g c =
     let size = g.T.Number.size in
     let i = c.loop-x.x-index in
-    as_far c.from_residual.result _ (λ k. table (λ j. g.T.Number.spelled (drop (g.T.Number.size * j) c.args.self.now)) k ++ drop k c.args.list.now) size (length c.args.self.now) i c.loop-x.invariant.there
-    (shorter (length c.args.self.now) (size * (i + 1))
-    (λ l. c.in_err-x.ensures.ok.1 (omega (arith, l, ap length c.loop-x.invariant.rest, length-drop (size * i) c.args.self.now))) (λ x. never x))
+    as_far c.from_residual.result _ _ (λ k. table (λ j. g.T.Number.spelled (drop (g.T.Number.size * j) c.args.self.now)) k ++ drop k c.args.list.now) c.args.self.now size i c.loop-x.invariant.there
+    (lt_of_not-le
+    (λ l. never (c.in_err-x.ensures.ok.1 (omega (arith, l, ap length c.loop-x.invariant.rest, length-drop (size * i) c.args.self.now)))))
+    (c.in_err-x.ensures.same ∙ c.loop-x.invariant.rest)
     (set-get_or _ _ _ ∙ c.loop-x.invariant.filled.is)

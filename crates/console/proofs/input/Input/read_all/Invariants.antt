@@ -2,7 +2,7 @@ use Prim.Native.Nat.{◌*◌, ◌≤◌}
 use lib.ListN.{drop, length}
 use mathlib.Core.Path.{◌≡◌}
 use Rattle.numbers.proofs.Filled.{Filled}
-use Rattle.console.proofs.input.Input.fill.Given as goal
+use Rattle.console.proofs.input.Input.read_all.Given as goal
 
 abbrev pub invariant-loop-x : goal.invariant-loop-x
 invariant-loop-x g l =
