@@ -117,6 +117,7 @@ impl<'a> Input<'a> {
 }
 
 // Zeros in every place.
+#[tactic(auto, using(numbers::proofs::Filled::fill_none))]
 fn clear<T: Number>(list: &mut [T])
     ensures { list.new ≡ table (λ i. T.ZERO) (length list.old) }
 {
@@ -242,6 +243,7 @@ pub fn at_most(count: usize, most: usize) -> Result<usize, Malformed>
 }
 
 // What the buffer holds before the call: -1, -2, -3, ...
+#[tactic(auto, using(std::proofs::lemmas::Int::ints, numbers::proofs::Filled::fill_none, numbers::proofs::Filled::fill_all), unfolding(crate::specs::Input::lent))]
 pub fn lent_numbers() -> [i64; MOST_LENT]
     ensures { result ≡ lent MOST_LENT }
 {

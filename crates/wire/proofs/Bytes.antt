@@ -1,12 +1,9 @@
--- Little-endian numbers byte by byte; negative numbers. Assumes nothing.
-use mathlib.Core.Path.{◌≡◌, refl, ap}
+-- Little-endian numbers byte by byte. Assumes nothing.
+use mathlib.Core.Path.{◌≡◌, refl}
 use mathlib.Core.List.{List}
-use Prim.Native.Nat.{ℕ, zero, suc, ◌+◌, ◌-◌, ◌*◌, ◌^◌, ◌≤◌, ◌<◌}
+use Prim.Native.Nat.{ℕ, suc, ◌+◌, ◌-◌, ◌*◌, ◌^◌, ◌≤◌, ◌<◌}
 use native.Mathlib.Omega.{arith}
 use native.Mathlib.Nat.{pow-suc, pow-le-pow_right}
-use lib.IntN.{pos, negsuc, ◌-ℤ◌}
-use mir.Syntax.{w64}
-use mir.Val.{SFits}
 use Rattle.numbers.specs.Sums.{at}
 use Rattle.wire.specs.Bytes.{little_endian}
 
@@ -31,12 +28,3 @@ module _ (N k : ℕ) (l : 0 < k) (h : k ≤ N) where
     where
       largest : 256 ^ (N - (k - 1)) ≤ 256 ^ 8 → 256 ^ (N - (k - 1)) ≤ 18446744073709551616
       largest e = e
-
--- ---- signed numbers
-
-pub minus_one : (m : ℕ) → negsuc 0 -ℤ pos m ≡ negsuc m
-minus_one zero = refl
-minus_one (suc m) = ap negsuc (omega arith)
-
-pub fits_negative : (m : ℕ) → m < 9223372036854775808 → SFits w64 (negsuc m)
-fits_negative m l = record { sfits = omega arith }
