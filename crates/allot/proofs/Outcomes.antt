@@ -41,7 +41,7 @@ use Rattle.taken.proofs.Facts.{Facts, facts, taken_summable, entering_sum, any_l
 use Rattle.allot.specs.UserWeights.{InRange, CellsInRange, consumption_and_losses, weights, by_all_kinds, basis_weights}
 use Rattle.allot.specs.Shared.{shares_of}
 use Rattle.allot.specs.Slots.{balances_of, all_balances}
-use Rattle.allot.proofs.balance.Cells.{cells_padded}
+use Rattle.allot.proofs.balance.Cells.{first_cells, cells_padded}
 use Rattle.allot.specs.Allotted.{with_balances, Allots, Tested}
 
 -- ---- lists
@@ -284,12 +284,15 @@ module _ (d : PointDay) (z : Sized d) (ok : taken d ≡ true) where
 
         -- what the code leaves in the cells
         pub cells_left : {x : ℕ} {w b : ℤ} {cells bs : List ℤ} → pos x ≡ net_of d.measurement → x ≤ LIMIT → w ≡ all_whole (read d).users → b ≡ to_z w64 x -ℤ to_z w64 (of_z w64 w)
-            → cells ≡ padded CELLS (pos 0) [] → bs ≡ all_balances (to_z w64 (of_z w64 b)) d.consumption d.losses d.users d.count ++ drop (KINDS * d.count) cells
+            → cells ≡ padded CELLS (pos 0) []
+            → bs ≡ all_balances (to_z w64 (of_z w64 b)) d.consumption d.losses (take d.count d.users) (length (take d.count d.users)) ++ drop (KINDS * length (take d.count d.users)) cells
             → bs ≡ padded CELLS (pos 0) (all_balances (day_balance (read d)) d.consumption d.losses d.users d.count)
         cells_left {cells = cells} p l q e zeros g =
             let kept = ap (λ y. to_z w64 (of_z w64 y)) (e ∙ difference_is p l q) ∙ back balance_small (omega arith) in
             cells_padded (day_balance (read d)) d.consumption d.losses d.users d.count cells_in_range f.few zeros
-            (g ∙ ap (λ y. all_balances y d.consumption d.losses d.users d.count ++ drop (KINDS * d.count) cells) kept)
+            (g
+            ∙ first_cells _ d.consumption d.losses d.users d.count (omega (arith, f.few, z.users)) cells
+            ∙ ap (λ y. all_balances y d.consumption d.losses d.users d.count ++ drop (KINDS * d.count) cells) kept)
 
         pub allot_12 : too_large (balanced (read d)) ≡ true → outcome (refused 12) d ≡ called allot d
         unfolding allot

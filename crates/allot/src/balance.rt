@@ -1,5 +1,5 @@
 // The balance of a point-day, over its users and their kinds.
-ghost use Rattle.std.specs.Prelude.{◌≡◌, true, ◌++◌, ℕ, ◌*◌, ◌≤◌, ◌<◌, length, take, drop};
+ghost use Rattle.std.specs.Prelude.{◌≡◌, true, ◌++◌, ℕ, ◌*◌, ◌≤◌, ◌<◌, length, drop};
 ghost use Rattle.numbers.specs.Sums.{atZ};
 ghost use Rattle.numbers.specs.Lists.{distinct};
 ghost use Rattle.numbers.specs.Amounts.{Within};
@@ -47,29 +47,29 @@ fn spread_balance<'a>(
     shares: &mut [i64],
     cells: &mut [i64],
 )
-    requires within { Within LIMIT balance × (length users.now ≡ USERS) × (length cells.old ≡ CELLS) }
-    requires shares_nonzero { (0 < length shares.old) × (length shares.old ≤ USERS) × (distinct (take (length shares.old) users.now) ≡ true) × (length keys.old ≡ length shares.old) × (length ws.old ≡ length shares.old) }
-    ensures shares_after { shares.new ≡ shares_of balance offtakes.now.consumption.now offtakes.now.losses.now users.now (length shares.old) }
-    ensures cells_after { cells.new ≡ all_balances balance offtakes.now.consumption.now offtakes.now.losses.now users.now (length shares.old) ++ drop (KINDS * length shares.old) cells.old }
+    requires within { Within LIMIT balance × (length cells.old ≡ CELLS) × (distinct users.now ≡ true) }
+    requires users_nonzero { (0 < length users.now) × (length users.now ≤ USERS) × (length keys.old ≡ length users.now) × (length ws.old ≡ length users.now) × (length shares.old ≡ length users.now) }
+    ensures shares_after { shares.new ≡ shares_of balance offtakes.now.consumption.now offtakes.now.losses.now users.now (length users.now) }
+    ensures cells_after { cells.new ≡ all_balances balance offtakes.now.consumption.now offtakes.now.losses.now users.now (length users.now) ++ drop (KINDS * length users.now) cells.old }
 {
     let kinds = shares::share_by(balance, offtakes, users, keys, ws, shares);
     spread_all(kinds, offtakes, ws, shares, cells);
 }
 
-// The shares of n users of the balance, and the balance of each of them and its kinds; later shares and cells stay.
+// The shares of these users of the balance, and the balance of each of them and its kinds; later shares and cells stay.
 pub fn balance_cells<'a>(
     balance: i64,
     offtakes: &Offtakes<'a>,
     users: &'a [u16],
-    n: usize,
     shares: &mut [i64],
     cells: &mut [i64],
 )
-    requires within { Within LIMIT balance × (length users.now ≡ USERS) × (length cells.old ≡ CELLS) }
-    requires n_nonzero { (0 < n) × (n ≤ USERS) × (distinct (take n users.now) ≡ true) × (n ≤ length shares.old) }
-    ensures shares_after { shares.new ≡ shares_of balance offtakes.now.consumption.now offtakes.now.losses.now users.now n ++ drop n shares.old }
-    ensures cells_after { cells.new ≡ all_balances balance offtakes.now.consumption.now offtakes.now.losses.now users.now n ++ drop (KINDS * n) cells.old }
+    requires within { Within LIMIT balance × (length cells.old ≡ CELLS) × (distinct users.now ≡ true) }
+    requires users_nonzero { (0 < length users.now) × (length users.now ≤ USERS) × (length users.now ≤ length shares.old) }
+    ensures shares_after { shares.new ≡ shares_of balance offtakes.now.consumption.now offtakes.now.losses.now users.now (length users.now) ++ drop (length users.now) shares.old }
+    ensures cells_after { cells.new ≡ all_balances balance offtakes.now.consumption.now offtakes.now.losses.now users.now (length users.now) ++ drop (KINDS * length users.now) cells.old }
 {
+    let n = users.len();
     let mut keys = numbers::repeat::<u64, USERS>(0);
     let mut ws = numbers::repeat::<u64, USERS>(0);
     spread_balance(

@@ -36,10 +36,11 @@ fn cells_test<'a>(
     let mut shares = state.wholes;
     let day_balance = numbers::minus(state::net(state.measurement) as i64, state.sum);
     let offtakes = Offtakes {
-        consumption: consumption,
-        losses: losses,
+        consumption,
+        losses,
     };
-    balance::balance_cells(day_balance, &offtakes, &state.users, n, &mut shares, cells);
+    let users = &state.users[..n];
+    balance::balance_cells(day_balance, &offtakes, users, &mut shares, cells);
     state::whole_amounts(consumption, losses, cells, revision, n, &mut shares);
     if taken::wholes_too_large(&shares[..n]) {
         return Err(Refusal::AmountTooLarge);
@@ -77,7 +78,7 @@ fn put_balances(day: PointDay, balance: [i64; CELLS]) -> PointDay
 {
     PointDay {
         allotted: true,
-        balance: balance,
+        balance,
         ..day
     }
 }

@@ -22,7 +22,7 @@ pub struct Basis {
     pub total: u64,
 }
 
-// Consumption and losses of a point-day's cells: each in its range, and together too.
+// Consumption and losses of a point-day's cells: each in its range, and together too. Two lists, as a point-day has them: read in place.
 #[derive(Clone, Copy)]
 pub struct Offtakes<'a> {
     pub consumption: &'a [i64],
@@ -91,7 +91,7 @@ impl<'a> Offtakes<'a> {
         if total != 0 {
             return Basis {
                 kinds: Kinds::From2To5,
-                total: total,
+                total,
             };
         }
         self.weights(Kinds::All, ws);

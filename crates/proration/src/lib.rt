@@ -36,7 +36,7 @@ impl Party {
     }
 }
 
-// The parties that wait for a unit.
+// The parties that wait for a unit. Remainders and keys are two lists, as the callers have them: keys are lent, remainders made.
 #[derive(Clone, Copy)]
 pub struct Parties<'a> {
     pub rems: &'a [u64],
@@ -68,20 +68,42 @@ impl<'a> Parties<'a> {
     }
 }
 
+// The weights of a split, each at most the largest, with their sum, W.
+#[derive(Clone, Copy)]
+pub struct Weights<'a> {
+    pub each: &'a [u64],
+    pub sum: u64,
+    pub ghost summed: { sum ≡ total each.now },
+    pub ghost bounded: { Bounded LARGEST_WEIGHT each.now },
+}
+
+impl<'a> Weights<'a> {
+    // These weights, with their sum added up.
+    pub fn of(each: &'a [u64]) -> Weights<'a>
+        requires { (length each.now ≤ PARTIES) × Bounded LARGEST_WEIGHT each.now }
+        ensures { result.each.now ≡ each.now }
+    {
+        Weights {
+            each,
+            sum: weight_total(each),
+        }
+    }
+}
+
 // The whole units of each party, and its remainder; returns the sum of the whole units.
-pub fn floors(amount: u64, ws: &[u64], weight_sum: u64, shares: &mut [u64], rems: &mut [u64]) -> u64
-    requires amount_bound { (amount ≤ LARGEST_AMOUNT) × (0 < weight_sum) × (weight_sum ≡ total ws.now) × Bounded LARGEST_WEIGHT ws.now }
-    requires ws_in_bounds { (length ws.now ≤ length shares.old) × (length rems.old ≡ length ws.now) }
-    ensures value { result ≡ sum (floor amount weight_sum (at ws.now)) (length ws.now) }
-    ensures shares_after { shares.new ≡ table (floor amount weight_sum (at ws.now)) (length ws.now) ++ drop (length ws.now) shares.old }
-    ensures rems_after { rems.new ≡ table (rem amount weight_sum (at ws.now)) (length ws.now) }
+pub fn floors(amount: u64, weights: Weights, shares: &mut [u64], rems: &mut [u64]) -> u64
+    requires amount_bound { (amount ≤ LARGEST_AMOUNT) × (0 < weights.sum) }
+    requires ws_in_bounds { (length weights.each.now ≤ length shares.old) × (length rems.old ≡ length weights.each.now) }
+    ensures value { result ≡ sum (floor amount weights.entry.sum (at weights.entry.each.now)) (length weights.entry.each.now) }
+    ensures shares_after { shares.new ≡ table (floor amount weights.entry.sum (at weights.entry.each.now)) (length weights.entry.each.now) ++ drop (length weights.entry.each.now) shares.old }
+    ensures rems_after { rems.new ≡ table (rem amount weights.entry.sum (at weights.entry.each.now)) (length weights.entry.each.now) }
 {
     let mut given: u64 = 0;
-    for i in 0..ws.len() {
-        let x = amount * ws[i];
-        let f = x / weight_sum;
+    for i in 0..weights.each.len() {
+        let x = amount * weights.each[i];
+        let f = x / weights.sum;
         shares[i] = f;
-        rems[i] = x % weight_sum;
+        rems[i] = x % weights.sum;
         given += f;
     }
     given

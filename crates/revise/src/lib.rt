@@ -78,7 +78,7 @@ fn put_revisions(day: PointDay, revision: [i64; USERS]) -> PointDay
     ensures { result ≡ set_revision revision day }
 {
     PointDay {
-        revision: revision,
+        revision,
         ..day
     }
 }

@@ -62,7 +62,8 @@ fn count_tied(parties: &Parties, cut: Party) -> u64
     count
 }
 
-// A number from `low` to `high` that compares as equal, by halving; where none does, the one at which the answer turns.
+// A number from `low` to `high` that compares as equal, by halving; where none does, the one at which the answer turns. (A loop by hand:
+// what is searched is no list, but the numbers between two bounds.)
 fn halve<F: Fn(u64) -> Ordering>(low: u64, high: u64, compare: F) -> u64
     requires { F.IsAlwaysCallable compare }
 {

@@ -7,7 +7,7 @@ pub mod largest_remainder;
 mod leftover;
 
 ghost use Rattle.std.specs.Prelude.{◌≡◌, ℕ, ◌<◌, ◌≤◌, ◌++◌, length, drop, nat_le};
-ghost use Rattle.numbers.specs.Sums.{table, at, total, Bounded};
+ghost use Rattle.numbers.specs.Sums.{table, at};
 ghost use Rattle.numbers.specs.Lists.{every};
 ghost use Rattle.numbers.specs.Amounts.{Within, signed};
 ghost use Rattle.numbers.specs.Refusals.{status_of};
@@ -17,7 +17,7 @@ ghost use Rattle.split.specs.Call.{in_range, answer, after};
 use largest_remainder::prorate_in;
 use leftover::FEW;
 use numbers::Refusal;
-use proration::PARTIES;
+use proration::{PARTIES, Weights};
 
 // The largest amount of a split in size, and the largest weight.
 const LARGEST_AMOUNT: u64 = 1_000_000_000;
@@ -35,33 +35,27 @@ fn give(negative: bool, shares: &[u64], out: &mut [i64])
 }
 
 // The signed shares of the amount over up to ROOM parties, through the shares of its size.
-fn signed_in<const ROOM: usize>(
-    amount: i64,
-    ws: &[u64],
-    weight_sum: u64,
-    keys: &[u64],
-    out: &mut [i64],
-)
-    requires within { Within LARGEST_AMOUNT amount × (weight_sum ≡ total ws.now) × (0 < length ws.now) × (length ws.now ≤ ROOM) × (ROOM ≤ PARTIES) × Bounded LARGEST_WEIGHT ws.now }
-    requires ws_in_bounds { (length ws.now ≤ length keys.now) × (length ws.now ≤ length out.old) }
-    ensures { out.new ≡ prorateZ amount ws.now keys.now ++ drop (length ws.now) out.old }
+fn signed_in<const ROOM: usize>(amount: i64, weights: Weights, keys: &[u64], out: &mut [i64])
+    requires within { Within LARGEST_AMOUNT amount × (0 < length weights.each.now) × (length weights.each.now ≤ ROOM) × (ROOM ≤ PARTIES) }
+    requires ws_in_bounds { (length weights.each.now ≤ length keys.now) × (length weights.each.now ≤ length out.old) }
+    ensures { out.new ≡ prorateZ amount weights.entry.each.now keys.now ++ drop (length weights.entry.each.now) out.old }
 {
     let mut room = numbers::repeat::<_, ROOM>(0);
-    let shares = &mut room[..ws.len()];
-    prorate_in::<ROOM>(amount.unsigned_abs(), ws, weight_sum, keys, shares);
+    let shares = &mut room[..weights.each.len()];
+    prorate_in::<ROOM>(amount.unsigned_abs(), weights, keys, shares);
     give(amount.is_negative(), shares, out);
 }
 
-// The signed amount prorated over the weights, whose sum `weight_sum` is handed in. Numbers of `out` past the parties stay.
-pub fn prorate_signed(amount: i64, ws: &[u64], weight_sum: u64, keys: &[u64], out: &mut [i64])
-    requires within { Within LARGEST_AMOUNT amount × (weight_sum ≡ total ws.now) × (0 < length ws.now) × (length ws.now ≤ PARTIES) × Bounded LARGEST_WEIGHT ws.now }
-    requires ws_in_bounds { (length ws.now ≤ length keys.now) × (length ws.now ≤ length out.old) }
-    ensures { out.new ≡ prorateZ amount ws.now keys.now ++ drop (length ws.now) out.old }
+// The signed amount prorated over the weights. Numbers of `out` past the parties stay.
+pub fn prorate_signed(amount: i64, weights: Weights, keys: &[u64], out: &mut [i64])
+    requires within { Within LARGEST_AMOUNT amount × (0 < length weights.each.now) × (length weights.each.now ≤ PARTIES) }
+    requires ws_in_bounds { (length weights.each.now ≤ length keys.now) × (length weights.each.now ≤ length out.old) }
+    ensures { out.new ≡ prorateZ amount weights.entry.each.now keys.now ++ drop (length weights.entry.each.now) out.old }
 {
-    if ws.len() <= FEW {
-        signed_in::<FEW>(amount, ws, weight_sum, keys, out);
+    if weights.each.len() <= FEW {
+        signed_in::<FEW>(amount, weights, keys, out);
     } else {
-        signed_in::<PARTIES>(amount, ws, weight_sum, keys, out);
+        signed_in::<PARTIES>(amount, weights, keys, out);
     }
 }
 
@@ -96,6 +90,6 @@ pub fn split(amount: i64, ws: &[u64], keys: &[u64], out: &mut [i64]) -> Result<(
     if out.len() < ws.len() {
         return Err(Refusal::ShortBuffer);
     }
-    prorate_signed(amount, ws, proration::weight_total(ws), keys, out);
+    prorate_signed(amount, Weights::of(ws), keys, out);
     Ok(())
 }

@@ -9,7 +9,7 @@ use lib.ListN.{length, take, drop, replicate}
 use mir.Syntax.{w64}
 use mir.Val.{SFits, to_z}
 use mir.Facts.{to_z_pos}
-use Rattle.numbers.specs.Sums.{atZ, total, Bounded}
+use Rattle.numbers.specs.Sums.{atZ, Bounded}
 use Rattle.numbers.specs.Lists.{every, Distinct}
 use Rattle.numbers.specs.Amounts.{Within}
 use Rattle.numbers.proofs.Sums.{length_table, getD_table}
@@ -66,12 +66,12 @@ module _ (reading : ℕ) (ws : List ℤ) (right : in_range reading ws ≡ true) 
     total_asks = (omega (arith, long_sizes, facts.few), sizes_small)
 
     module _ (n : ℕ) (long : n ≡ length ws) {keys : List ℕ} (are-days : keys ≡ days n) (out : List ℤ) where
-      pub split_asks : {whole : ℕ} → whole ≡ total sizes → length ws ≤ length out
-          → (Within LARGEST_AMOUNT (to_z w64 reading) × (whole ≡ total sizes) × (0 < length sizes) × (length sizes ≤ PARTIES) × Bounded LARGEST_WEIGHT sizes)
+      pub split_asks : length ws ≤ length out
+          → (Within LARGEST_AMOUNT (to_z w64 reading) × (0 < length sizes) × (length sizes ≤ PARTIES))
           × ((length sizes ≤ length keys) × (length sizes ≤ length out))
-      split_asks e l =
+      split_asks l =
           let k = ap length are-days ∙ length_table suc n ∙ long in
-          ((rw reading_is (record { size = facts.reading }), e, omega (arith, long_sizes, facts.some), omega (arith, long_sizes, facts.few), sizes_small), (omega (arith, long_sizes, k), omega (arith, long_sizes)))
+          ((rw reading_is (record { size = facts.reading }), omega (arith, long_sizes, facts.some), omega (arith, long_sizes, facts.few)), (omega (arith, long_sizes, k), omega (arith, long_sizes)))
 
       pub parts_are : {after : List ℤ} → after ≡ prorateZ (to_z w64 reading) sizes keys ++ drop (length sizes) out → after ≡ parts reading ws ++ drop (length ws) out
       unfolding parts

@@ -7,7 +7,7 @@ ghost use Rattle.spread.specs.Spread.{outcome, spread, answer_of};
 
 use numbers::Refusal;
 use point_day::LIMIT;
-use proration::PARTIES;
+use proration::{PARTIES, Weights};
 
 // Whether the reading, the count of days and each weight are in their ranges.
 #[tactic(auto, unfolding(crate::specs::Period::in_range))]
@@ -36,8 +36,7 @@ fn prorate_days(reading: u64, weights: &[i64], sizes: &mut [u64], keys: &mut [u6
 {
     columns::sizes_of(weights, sizes);
     write_days(keys);
-    let weight_sum = proration::weight_total(sizes);
-    split::prorate_signed(reading as i64, sizes, weight_sum, keys, out);
+    split::prorate_signed(reading as i64, Weights::of(sizes), keys, out);
 }
 
 // The same, with the scratch that it needs.

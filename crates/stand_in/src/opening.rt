@@ -30,7 +30,7 @@ pub fn opened(day: PointDay, users: &[u16], shares: [i64; USERS]) -> PointDay
     column[..count].copy_from_slice(users);
     PointDay {
         allotted: true,
-        count: count,
+        count,
         users: column,
         revision: shares,
         ..day

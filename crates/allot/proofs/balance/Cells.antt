@@ -5,17 +5,20 @@ use mathlib.Core.List.{List, [], ◌++◌, append-nil}
 use Prim.Native.Nat.{ℕ, zero, suc, ◌-◌, ◌*◌, ◌≤◌, ◌<◌}
 use native.Mathlib.Omega.{arith}
 use lib.IntN.{ℤ, pos}
-use lib.ListN.{length, drop, replicate, drop_of_length-le, length-replicate}
+use lib.ListN.{length, take, drop, replicate, drop_of_length-le, length-replicate}
+use Rattle.std.proofs.lemmas.List.{take_all}
+use lib.Seq.{length-take-le}
 use Rattle.numbers.specs.Sums.{atZ}
+use Rattle.proration.specs.Proration.{prorateZ}
 use Rattle.proration.proofs.Signs.{lengthZ}
 use Rattle.point_day.specs.Limits.{USERS, CELLS, KINDS}
 use Rattle.point_day.specs.Calls.{by_basis, or_kind_1, kinds, with_share}
 use Rattle.point_day.specs.Struct.{padded}
 use Rattle.point_day.proofs.Wholes.{length_weights}
-use Rattle.allot.specs.UserWeights.{CellsInRange, consumption_and_losses, by_all_kinds}
+use Rattle.allot.specs.UserWeights.{CellsInRange, consumption_and_losses, by_all_kinds, basis_weights}
 use Rattle.allot.proofs.weights.Weighing.{cells_full}
 use Rattle.allot.specs.Shared.{shares_of}
-use Rattle.allot.specs.Slots.{all_balances}
+use Rattle.allot.specs.Slots.{balances_of, all_balances}
 use Rattle.allot.proofs.balance.Parts.{flat_long}
 
 -- zeros are the cells of nobody
@@ -51,6 +54,13 @@ module _ (z : ℤ) (cs ls : List ℤ) (users : List ℕ) (n : ℕ) where
       ∙ ap₂ (λ y m. shares_of y cs ls users m ++ drop m o₀) e q
       ∙ ap (λ t. shares_of z cs ls users n ++ t) (drop_of_length-le o₀ {i = n} (omega arith))
       ∙ append-nil _
+
+  -- the cells of the first n users, handed in as a list of their own
+  pub first_cells : n ≤ length users → (d₀ : List ℤ)
+      → all_balances z cs ls (take n users) (length (take n users)) ++ drop (KINDS * length (take n users)) d₀ ≡ all_balances z cs ls users n ++ drop (KINDS * n) d₀
+  first_cells l d₀ =
+      ap (λ k. all_balances z cs ls (take n users) k ++ drop (KINDS * k) d₀) (length-take-le n users l)
+      ∙ ap (λ us. balances_of (by_all_kinds cs ls n) cs ls (prorateZ z (basis_weights cs ls n) us) n ++ drop (KINDS * n) d₀) (take_all n (take n users) (omega (arith, length-take-le n users l)))
 
 module _ (z : ℤ) (cs ls : List ℤ) (users : List ℕ) (n : ℕ) (h : CellsInRange cs ls) (l : n ≤ USERS) where
   balances_long : length (all_balances z cs ls users n) ≡ KINDS * n

@@ -2,6 +2,7 @@
 use mathlib.Core.Path.{◌≡◌, sym, ap, ◌∙◌, subst⁻¹}
 use native.Mathlib.Omega.{arith}
 use lib.ListN.{length}
+use lib.Seq.{length-take-le}
 use borrow.Author.Rules.{rules}
 use Rattle.numbers.specs.Sums.{table}
 use Rattle.numbers.specs.Amounts.{SAFE, Within}
@@ -12,8 +13,6 @@ use Rattle.point_day.proofs.Taken.{taken_facts}
 use Rattle.state.specs.Places.{whole_at}
 use Rattle.taken.proofs.Facts.{facts, taken_summable, first_wholes}
 use Rattle.allot.specs.Allotted.{Tested}
-use Rattle.allot.specs.Shared.{shares_of}
-use Rattle.allot.proofs.shares.Sharing.{shares_long}
 use Rattle.allot.proofs.balance.Cells.{none_long}
 use Rattle.allot.proofs.OfParts.{is_of_parts, allottable_parts}
 use Rattle.allot.proofs.Outcomes.{filled_long, cells_in_range, balances_small, large_after, users_are, sum_small, difference_is, balance_small, cells_left, allot_12, allot_done, fails, passes}
@@ -37,6 +36,11 @@ invariant_of-offtakes c =
     let k = (allottable_parts c.requires.0.holds).has.known in
     record { in_range = cells_in_range _ k.sized k.is_taken }
 
+pub shared_ref_as_front-users : goal.shared_ref_as_front-users
+shared_ref_as_front-users c =
+    let k = (allottable_parts c.requires.0.holds).has.known in
+    omega (arith, (facts _ k.sized k.is_taken).few, k.sized.users)
+
 pub balance_cells-requires : goal.balance_cells-requires
 balance_cells-requires c =
     let a = allottable_parts c.requires.0.holds in
@@ -47,7 +51,7 @@ balance_cells-requires c =
     let b = c.minus-day_balance.ensures ∙ difference_is _ z t a.entering net.0 net.1 k.sum in
     let small = balance_small _ z t a.entering a.measured a.users in
     let f = facts _ z t in
-    let room : length c.args.state.now.wholes ≡ USERS = search rules in record { within = (rw (b, back small (omega arith)) small, z.users, none_long c.requires.1); n_nonzero = (omega (arith, a.users), f.few, f.apart, omega (arith, f.few, room)) }
+    let room : length c.args.state.now.wholes ≡ USERS = search rules in let first = length-take-le c.args.state.now.count c.args.state.now.users (omega (arith, f.few, z.users)) in record { within = (rw (b, back small (omega arith)) small, none_long c.requires.1, f.apart); users_nonzero = (omega (arith, a.users, first), omega (arith, f.few, first), omega (arith, f.few, first, room)) }
 
 pub whole_amounts-requires : goal.whole_amounts-requires
 whole_amounts-requires c =
@@ -60,9 +64,9 @@ whole_amounts-requires c =
     let long : length c.balance_cells.new.cells ≡ length c.args.cells.now = search rules in
     let w = cells_left _ z t a.entering a.measured a.users net.0 net.1 k.sum c.minus-day_balance.ensures c.requires.1 c.balance_cells.ensures.cells_after in
     let l = taken_summable _ z t in
-    let enough = filled_long (shares_of _ c.args.consumption.now c.args.losses.now c.args.state.now.users c.args.state.now.count) _ (shares_long _ c.args.consumption.now c.args.losses.now c.args.state.now.users c.args.state.now.count) c.balance_cells.ensures.shares_after in (
+    let room : length c.balance_cells.new.shares ≡ USERS = search rules in (
       l.few,
-      enough,
+      omega (arith, l.few, room),
       l.consumption,
       l.losses,
       balances_small _ z t a.entering (users_are _ z t a.users) bs w,

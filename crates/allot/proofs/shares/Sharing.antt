@@ -1,4 +1,4 @@
--- The users' shares: what a split leaves in its buffer, and what fits. Assumes nothing.
+-- The users' shares: how many there are, and what fits. Assumes nothing.
 use mathlib.Core.Path.{◌≡◌, ap, ap₂, ◌∙◌}
 use mathlib.Core.Bool.{true}
 use mathlib.Core.List.{List, ◌++◌}
@@ -7,6 +7,7 @@ use Prim.Native.Nat.{ℕ, ◌≤◌}
 use native.Mathlib.Omega.{arith}
 use lib.IntN.{ℤ, pos}
 use lib.ListN.{length, take, drop, get_or-eq_default}
+use Rattle.std.proofs.lemmas.List.{take_all}
 use lib.Seq.{length-take-le}
 use Rattle.numbers.specs.Sums.{atZ}
 use Rattle.numbers.specs.Lists.{distinct}
@@ -23,15 +24,15 @@ use Rattle.allot.specs.Shared.{shares_of}
 -- ---- the users' shares
 
 module _ (z : ℤ) (cs ls : List ℤ) (users : List ℕ) (n : ℕ) where
-  -- what a split leaves in its buffer
-  pub shares_are : {ws ks : List ℕ} → ws ≡ basis_weights cs ls n → ks ≡ take n users → (o₀ : List ℤ) {o : List ℤ}
-      → o ≡ prorateZ z ws ks ++ drop (length ws) o₀ → o ≡ shares_of z cs ls users n ++ drop n o₀
-  shares_are {ws} {ks} e f o₀ q =
-      let long : length ws ≡ n = ap length e ∙ length_table _ n in
-      q ∙ ap₂ ◌++◌ (ap₂ (prorateZ z) e f) (ap (λ k. drop k o₀) long)
-
   pub shares_long : length (shares_of z cs ls users n) ≡ n
   shares_long = lengthZ z (basis_weights cs ls n) (take n users) ∙ length_table _ n
+
+  -- of the first n users, handed in as a list of their own
+  pub first_shares : n ≤ length users → (o₀ : List ℤ)
+      → shares_of z cs ls (take n users) (length (take n users)) ++ drop (length (take n users)) o₀ ≡ shares_of z cs ls users n ++ drop n o₀
+  first_shares l o₀ =
+      ap (λ k. shares_of z cs ls (take n users) k ++ drop k o₀) (length-take-le n users l)
+      ∙ ap (λ us. prorateZ z (basis_weights cs ls n) us ++ drop n o₀) (take_all n (take n users) (omega (arith, length-take-le n users l)))
 
   module _ (within : Within LIMIT z) (apart : distinct (take n users) ≡ true) (l : n ≤ length users) where
     pub shares_within : (s : ℕ) → Within LIMIT (atZ (shares_of z cs ls users n) s)

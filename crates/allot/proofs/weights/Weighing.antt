@@ -22,24 +22,6 @@ use Rattle.state.proofs.Ranges.{added_is, added_fits}
 use Rattle.state.proofs.Totals.{kinds_long}
 use Rattle.allot.specs.UserWeights.{consumption_and_losses}
 
--- ---- one cell
-
-module _ {x y : ℤ} (h : Between (pos 0) (pos LIMIT) x) (k : Between (pos 0) (pos LIMIT) y) where
-  x_is : x ≡ pos (nat_abs x)
-  x_is = pos_size x (between_sign x h)
-
-  y_is : y ≡ pos (nat_abs y)
-  y_is = pos_size y (between_sign y k)
-
-  pub cell_fits : SFits w64 (to_z w64 (of_z w64 x) +ℤ to_z w64 (of_z w64 y))
-  cell_fits = added_fits (nat_abs x) (nat_abs y) (omega (arith, low_size LIMIT x h)) (omega (arith, low_size LIMIT y k)) x_is y_is
-
-  pub cell_is : nat_abs (to_z w64 (of_z w64 (to_z w64 (of_z w64 x) +ℤ to_z w64 (of_z w64 y)))) ≡ nat_abs x + nat_abs y
-  cell_is = ap nat_abs (added_is (nat_abs x) (nat_abs y) (omega (arith, low_size LIMIT x h)) (omega (arith, low_size LIMIT y k)) x_is y_is)
-
-  pub cell_small : nat_abs x + nat_abs y ≤ LARGEST_WEIGHT
-  cell_small = omega (arith, low_size LIMIT x h, low_size LIMIT y k)
-
 -- ---- five of them
 
 module _ {A : Type 0} (x : A) where

@@ -16,23 +16,23 @@ pub loop-i-init : goal.loop-i-init
 loop-i-init c = (omega arith, sum_none _, fill_none _ _, fill_none _ _)
 
 pub overflow_mul-x : goal.overflow_mul-x
-overflow_mul-x c = omega (arith, mul-le-mul c.requires.amount_bound.0 (c.requires.amount_bound.3 c.loop-i.i))
+overflow_mul-x c = omega (arith, mul-le-mul c.requires.amount_bound.0 (c.args.weights.bounded c.loop-i.i))
 
 pub overflow_add-given : goal.overflow_add-given
 overflow_add-given c =
-    let f = floor c.args.amount c.args.weight_sum (at c.args.ws.now) in
+    let f = floor c.args.amount c.args.weights.sum (at c.args.weights.each.now) in
     let i = c.loop-i.i in
-    let n = length c.args.ws.now in
+    let n = length c.args.weights.each.now in
     omega (
       arith,
       sum_more f i,
       sum_mono f (i + 1) n (omega arith),
-      floors_le c.args.amount c.args.weight_sum (at c.args.ws.now) n c.requires.amount_bound.1 (sym (total_sum c.args.ws.now) ∙ sym c.requires.amount_bound.2),
+      floors_le c.args.amount c.args.weights.sum (at c.args.weights.each.now) n c.requires.amount_bound.1 (sym (total_sum c.args.weights.each.now) ∙ sym c.args.weights.summed),
     )
 
 pub loop-i-preserved : goal.loop-i-preserved
 loop-i-preserved c =
-    let f = floor c.args.amount c.args.weight_sum (at c.args.ws.now) in
+    let f = floor c.args.amount c.args.weights.sum (at c.args.weights.each.now) in
     let i = c.loop-i.i in (
       omega arith,
       omega (arith, sum_more f i),
@@ -42,4 +42,4 @@ loop-i-preserved c =
 
 pub returns : goal.returns
 returns c =
-    let e : c.loop-i.i ≡ length c.args.ws.now = omega arith in record { value = rw (← e) c.loop-i.invariant.1; shares_after = fill_end c.loop-i.invariant.2 e; rems_after = rw (← e) (fill_all c.loop-i.invariant.3 (omega arith)) }
+    let e : c.loop-i.i ≡ length c.args.weights.each.now = omega arith in record { value = rw (← e) c.loop-i.invariant.1; shares_after = fill_end c.loop-i.invariant.2 e; rems_after = rw (← e) (fill_all c.loop-i.invariant.3 (omega arith)) }

@@ -7,4 +7,4 @@ use Rattle.proration.specs.Proration.{floor, rem}
 use Rattle.proration.proofs.floors.Given as goal
 
 abbrev pub invariant-loop-i : goal.invariant-loop-i
-invariant-loop-i l = (l.i ≤ length l.ws) × (l.given ≡ sum (floor l.amount l.weight_sum (at l.ws)) l.i) × Filled (floor l.amount l.weight_sum (at l.ws)) l.initial.shares l.i l.shares × Filled (rem l.amount l.weight_sum (at l.ws)) l.initial.rems l.i l.rems
+invariant-loop-i l = (l.i ≤ length l.weights.each.now) × (l.given ≡ sum (floor l.amount l.weights.sum (at l.weights.each.now)) l.i) × Filled (floor l.amount l.weights.sum (at l.weights.each.now)) l.initial.shares l.i l.shares × Filled (rem l.amount l.weights.sum (at l.weights.each.now)) l.initial.rems l.i l.rems

@@ -10,8 +10,8 @@ give-requires g c =
     let a = c.args in
     let p = c.requires.within in
     let e : c.unsigned_abs.result ≡ nat_abs a.amount = rw (to_z-of_z c.ranges.amount) at c.unsigned_abs.ensures.value in
-    let l = sym (take_long _ _ 0 c.repeat-room.ensures p.3) in
-    (omega (arith, shares_long a.amount a.ws.now a.keys.now p.2 e _ l c.prorate_in.ensures), λ i. omega (arith, shares_small a.amount a.ws.now a.keys.now p.2 e _ l c.prorate_in.ensures p.0 i))
+    let l = sym (take_long _ _ 0 c.repeat-room.ensures p.2) in
+    (omega (arith, shares_long a.amount a.weights.each.now a.keys.now p.1 e _ l c.prorate_in.ensures), λ i. omega (arith, shares_small a.amount a.weights.each.now a.keys.now p.1 e _ l c.prorate_in.ensures p.0 i))
 
 pub returns : goal.returns
 returns g c =
@@ -19,4 +19,4 @@ returns g c =
     let p = c.requires.within in
     let f = to_z-of_z c.ranges.amount in
     let e : c.unsigned_abs.result ≡ nat_abs a.amount = rw f at c.unsigned_abs.ensures.value in
-    signed_are a.amount a.ws.now a.keys.now p.2 e _ (sym (take_long _ _ 0 c.repeat-room.ensures p.3)) c.prorate_in.ensures a.out.now ((rw f at c.is_negative.ensures) ∙ lt_zero a.amount) c.give.ensures
+    signed_are a.amount a.weights.each.now a.keys.now p.1 e _ (sym (take_long _ _ 0 c.repeat-room.ensures p.2)) c.prorate_in.ensures a.out.now ((rw f at c.is_negative.ensures) ∙ lt_zero a.amount) c.give.ensures

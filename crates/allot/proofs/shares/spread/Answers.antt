@@ -7,6 +7,6 @@ use Rattle.allot.proofs.weights.Weighing.{bounded_five}
 use native.Mathlib.Omega.{arith}
 use Rattle.allot.proofs.shares.spread.Goals as goal
 
-pub prorate_signed-requires-clause-within : goal.prorate_signed-requires-clause-within
-prorate_signed-requires-clause-within c =
-    (rw (back c.requires.0 (omega arith)) c.requires.0, unfold total in refl, omega arith, omega arith, bounded_five LARGEST_WEIGHT _ _ _ _ _ (omega arith) (omega arith) (omega arith) (omega arith) (omega arith))
+pub invariant_of-to_first : goal.invariant_of-to_first
+invariant_of-to_first c =
+    record { summed = unfold total in refl; bounded = bounded_five LARGEST_WEIGHT _ _ _ _ _ (omega arith) (omega arith) (omega arith) (omega arith) (omega arith) }
