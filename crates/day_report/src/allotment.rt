@@ -38,7 +38,7 @@ fn allot(out: &mut [u8], header: Header, entered: &Entering) -> Result<usize, Re
     let net = header.emission - header.downstream;
     let balance = net as i64 - entered.offtake as i64;
     let mut shares = numbers::repeat::<_, USERS>(0);
-    shares::share_out(balance, consumption, losses, users, n, &mut shares);
+    shares::share_out(balance, consumption, losses, &users[..n], &mut shares);
     let slots = Slots {
         count: n,
         users,

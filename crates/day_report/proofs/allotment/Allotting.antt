@@ -32,6 +32,7 @@ use Rattle.state.proofs.Cells.{within_from}
 use Rattle.allot.specs.UserWeights.{CellsInRange, basis_weights}
 use Rattle.allot.specs.Shared.{shares_of}
 use Rattle.allot.proofs.Outcomes.{cells_in_range, allot_8}
+use Rattle.allot.proofs.shares.Sharing.{first_shares}
 use Rattle.calendar.specs.Answers.{given, answer_of}
 use Rattle.day_book.specs.Run.{allot}
 use Rattle.day_file.specs.Form.{sections}
@@ -53,7 +54,7 @@ use Rattle.file_lines.specs.declared.lines.Entering.{Entering}
 use Rattle.file_lines.specs.Entering.{entering, Entered, day_of, Holds, unjoined}
 use Rattle.file_lines.specs.Pieces.{nothing_entered}
 use Rattle.file_lines.proofs.Leading.{Leads, Stops}
-use Rattle.file_lines.proofs.Steps.{step, sized, sum_small}
+use Rattle.file_lines.proofs.Steps.{step, sized, sum_small, few}
 use Rattle.day_report.specs.Entered.{entered_and_allotted}
 use Rattle.day_report.specs.Answered.{text_for, buffer_after, size_of}
 use Rattle.day_report.proofs.allotment.Shares.{after, day_after, shares_day, shares_limited, report_is}
@@ -131,7 +132,10 @@ module _ {n : ℕ} {us : List ℕ} {cs ls : List ℤ} {x : ℕ} (s : Entered n u
         reported out (sym allots) (Ok r)
         (enough_room out g _ l (u ∙ ap length (k ∙ ap text allots)) (v ∙ ap (λ t. written out 0 t) (k ∙ ap text allots)))
 
-  module _ (h : n ≡ 0 → ⊥) {b : ℤ} (q : b ≡ pos (e - w) -ℤ pos x) {zs₀ zs : List ℤ} (o : zs₀ ≡ replicate USERS (pos 0)) (k : zs ≡ shares_of b cs ls us n ++ drop n zs₀) where
+  module _ (h : n ≡ 0 → ⊥) {b : ℤ} (q : b ≡ pos (e - w) -ℤ pos x) {zs₀ zs : List ℤ} (o : zs₀ ≡ replicate USERS (pos 0)) (k : zs ≡ shares_of b cs ls (take n us) (length (take n us)) ++ drop (length (take n us)) zs₀) where
+    in_front : zs ≡ shares_of b cs ls us n ++ drop n zs₀
+    in_front = k ∙ first_shares b cs ls us n (omega (arith, few s, s.users)) zs₀
+
     net_is : pos (e - w) ≡ net (read p)
     net_is = unfold read entering in refl
 
@@ -149,7 +153,7 @@ module _ {n : ℕ} {us : List ℕ} {cs ls : List ℤ} {x : ℕ} (s : Entered n u
     at_share i l =
         ap (λ t. atZ t i) shares_are
         ∙ sym (get_or-append (shares_of b cs ls us n) (drop n zs₀) (pos 0) i (omega (arith, length_shares)))
-        ∙ sym (ap (λ t. atZ t i) k)
+        ∙ sym (ap (λ t. atZ t i) in_front)
 
     pub by_shares : (g : ℕ) → shares_text g (e - w) x n us cs ls zs ≡ text (in_order g (allot ∷ []) p)
     by_shares g =
@@ -169,7 +173,7 @@ module _ {n : ℕ} {us : List ℕ} {cs ls : List ℤ} {x : ℕ} (s : Entered n u
 
         all : every (no_more LIMIT) zs ≡ true
         all =
-            ap (every (no_more LIMIT)) (k ∙ ap (λ t. shares_of b cs ls us n ++ drop n t) o)
+            ap (every (no_more LIMIT)) (in_front ∙ ap (λ t. shares_of b cs ls us n ++ drop n t) o)
             ∙ every_append (no_more LIMIT) (shares_of b cs ls us n) (drop n (replicate USERS (pos 0))) first
             (every_drop (no_more LIMIT) n (replicate USERS (pos 0)) (zeros_limited USERS))
 

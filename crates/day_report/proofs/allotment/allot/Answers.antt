@@ -1,8 +1,9 @@
 -- `day_report::allotment::allot` meets its contract. Assumes nothing.
-use mathlib.Core.Path.{refl, ap}
+use mathlib.Core.Path.{◌≡◌, refl, ap, ◌∙◌}
 use Prim.Native.Nat.{◌-◌}
 use lib.IntN.{ℤ, pos}
 use lib.ListN.{length, length-replicate}
+use lib.Seq.{length-take-le}
 use Rattle.numbers.proofs.Amounts.{widen, sfits, within_sub}
 use Rattle.numbers.specs.declared.Refusal.TheVariants.{NoUser}
 use Rattle.point_day.specs.Limits.{USERS}
@@ -42,12 +43,19 @@ overflow_sub-balance c =
     let w = c.args.header.downstream in
     sfits (within_sub (cast_safe (e - w) (omega (arith, emission_low c.requires.2 e w c.requires.1))) (cast_safe c.args.entered.now.offtake (omega (arith, sum_small c.requires.2)))) (omega arith)
 
+pub shared_ref_as_front-share_out : goal.shared_ref_as_front-share_out
+shared_ref_as_front-share_out c = few c.requires.2
+
 pub share_out-requires : goal.share_out-requires
 share_out-requires c =
     let a = c.args in
     let e = a.header.emission in
     let w = a.header.downstream in
-    let d = difference c.requires.2 e w c.requires.1 refl in record { within = (balance_small c.requires.2 e w c.requires.1 d, in_range c.requires.2 e w c.requires.1, search rules); n_nonzero = (omega (arith, c.if-n-eq0.false), few c.requires.2, omega (arith, few c.requires.2, ap length c.repeat-shares.ensures, length-replicate {A = ℤ} USERS (pos 0))) }
+    let d = difference c.requires.2 e w c.requires.1 refl in
+    let long : length a.entered.now.users ≡ USERS = search rules in
+    let first = length-take-le a.header.sections a.entered.now.users (omega (arith, few c.requires.2, long)) in
+    let room = ap length c.repeat-shares.ensures ∙ length-replicate {A = ℤ} USERS (pos 0) in
+    record { within = (balance_small c.requires.2 e w c.requires.1 d, in_range c.requires.2 e w c.requires.1); users_nonzero = (omega (arith, c.if-n-eq0.false, first), omega (arith, few c.requires.2, first), omega (arith, few c.requires.2, first, room)) }
 
 pub invariant_of-slots : goal.invariant_of-slots
 invariant_of-slots c =
