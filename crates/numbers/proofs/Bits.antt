@@ -4,13 +4,12 @@ use mathlib.Core.List.{List}
 use Prim.Native.Nat.{ℕ, suc, ◌+◌, ◌^◌, ◌≤◌, ◌<◌}
 use native.Mathlib.Omega.{arith}
 use lib.Bits.{bit_or, or_lt, or_add_and, and_le_l, and_le_r}
-use lib.Dec.{eqb}
 use lib.IntN.{ℤ, pos, negsuc}
-use borrow.Author.Tests.{ltb-false, le-ltb, eqb-true, eqb-false}
+use borrow.Author.Tests.{ltb-false, le-ltb}
 use mir.Syntax.{w64}
 use mir.Val.{of_z, SFits}
 use Rattle.numbers.specs.Sums.{atZ}
-use Rattle.numbers.specs.Amounts.{Between, Decides}
+use Rattle.numbers.specs.Amounts.{Between}
 use Rattle.numbers.proofs.Lists.{true≢false, passed}
 
 -- the bits gathered so far lie below 2 ^ k if and only if P holds
@@ -49,10 +48,3 @@ gather_zero xs from i bits l f h =
     gather (of_z w64 (atZ xs i)) h (amount_bits 0 0 refl (omega arith) (atZ xs i) f)
     (λ p q. passed (λ j. Between (pos 0) (pos 0) (atZ xs j)) from i p q)
     (λ r. (λ j a b. r j a (omega arith), r i l (omega arith)))
-
--- nothing is gathered
-pub none_gathered : {P : Type 0} (bits : ℕ) → Gathered 0 bits P → Decides (eqb bits 0) P
-none_gathered bits h = record {
-  yes = λ e. h.each (omega (arith, eqb-true bits 0 e));
-  no = λ e p. eqb-false bits 0 e (omega (arith, h.back p));
-}

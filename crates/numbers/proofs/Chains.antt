@@ -1,5 +1,6 @@
 -- What a chain of iterators answers, in the words of `Lists` and `Sums`. Assumes nothing.
-use Rattle.std.proofs.Common.{◌≡◌, refl, ap, ◌∙◌, Bool, true, false, not, ◌||◌, ap₂, sym, eqb, List, [], ◌∷◌, ℕ, ◌+◌, ◌*◌, ◌≤◌, ◌<◌, zero, suc, length, arith}
+use Rattle.std.proofs.Common.{◌≡◌, refl, ap, ◌∙◌, Bool, true, false, not, ◌||◌, ap₂, sym, eqb, List, [], ◌∷◌, map, ℕ, ◌+◌, ◌*◌, ◌≤◌, ◌<◌, zero, suc, length, arith}
+use Rattle.std.proofs.lemmas.List.{map-id}
 use Rattle.std.specs.List.{list_any, fold, sum, AllWithin, HoldsAt}
 use Rattle.std.specs.Int.{from_bool}
 use native.Mathlib.Nat.{suc-mul}
@@ -35,15 +36,21 @@ pub fails_from_any : {A : Type 0} (p : A → Bool) (xs : List A) (r : Bool)
 fails_from_any p xs true h = ap not (every_from_all p xs false h)
 fails_from_any p xs false h = ap not (every_from_all p xs true h)
 
--- `contains`
 eqb_comm : (a b : ℕ) → eqb a b ≡ eqb b a
 eqb_comm a b =
     ⊎_elim (λ t. t ∙ sym (eq-eqb b a (sym (eqb-true a b t)))) (λ f. f ∙ sym (ne_eqb b a (λ e. eqb-false a b f (sym e)))) (cases (eqb a b))
 
-pub any_is_has : (n : ℕ) (xs : List ℕ) → list_any (λ x. eqb x n) xs ≡ has n xs
+-- `contains`, of elements that are equal where their numbers are
+pub any_has_number : {A : Type 0} (number : A → ℕ) (eq : A → A → Bool) → ((x y : A) → eq x y ≡ eqb (number x) (number y))
+    → (x : A) (xs : List A) → list_any (λ y. eq y x) xs ≡ has (number x) (map number xs)
 unfolding has
-any_is_has n [] = refl
-any_is_has n (x ∷ xs) = either_is_or (eqb x n) (list_any (λ y. eqb y n) xs) ∙ ap₂ either (eqb_comm x n) (any_is_has n xs)
+any_has_number number eq law x [] = refl
+any_has_number number eq law x (y ∷ xs) =
+    either_is_or (eq y x) (list_any (λ z. eq z x) xs) ∙ ap₂ either (law y x ∙ eqb_comm (number y) (number x)) (any_has_number number eq law x xs)
+
+-- and of numbers
+pub any_is_has : (n : ℕ) (xs : List ℕ) → list_any (λ x. eqb x n) xs ≡ has n xs
+any_is_has n xs = any_has_number (λ x. x) eqb (λ x y. refl) n xs ∙ ap (has n) (map-id xs)
 
 -- `sum`
 fold_is_total : (a : ℕ) (xs : List ℕ) → fold (λ b x. b + x) a xs ≡ a + total xs

@@ -8,7 +8,8 @@ use native.Mathlib.Omega.{arith}
 use native.Mathlib.Numerals.{add-one}
 use lib.Dec.{T, eqb, ltb}
 use lib.ListN.{length, get_or, take}
-use lib.Seq.{take-suc, get_or-take, length-take-le}
+use Rattle.std.proofs.lemmas.List.{map-id}
+use lib.Seq.{take-suc}
 use borrow.Author.Tests.{ltb-true, eqb-false, eq-eqb, ne_eqb, not-true}
 use Rattle.numbers.specs.Sums.{table, at}
 use Rattle.numbers.specs.Lists.{both, either, every, has, distinct, Distinct, rising}
@@ -132,6 +133,10 @@ module _ {A : Type 0} where
 
 -- ---- distinct numbers
 
+-- numbers of their own width, as numbers
+pub distinct_map : (xs : List ℕ) → distinct (map (λ x. x) xs) ≡ distinct xs
+distinct_map xs = ap distinct (map-id xs)
+
 pub has_at : (n : ℕ) (xs : List ℕ) (i : ℕ) → i < length xs → at xs i ≡ n → has n xs ≡ true
 unfolding has
 has_at n [] i l e = absurd (omega arith)
@@ -187,9 +192,6 @@ scan_none n = refl
 pub scan_more : (n : ℕ) (xs : List ℕ) (i : ℕ) → i < length xs → has n (take i xs) ≡ false → (get_or xs i 0 ≡ n → ⊥) → has n (take (i + 1) xs) ≡ false
 unfolding has
 scan_more n xs i l h e = rw (add-one, take-suc xs i 0 l) (has_append n (take i xs) (get_or xs i 0 ∷ []) h (rw (ne_eqb n (get_or xs i 0) (λ z. e (sym z)))))
-
-pub scan_found : (n : ℕ) (xs : List ℕ) (i m : ℕ) → i < m → m ≤ length xs → get_or xs i 0 ≡ n → has n (take m xs) ≡ true
-scan_found n xs i m l k e = has_at n (take m xs) i (omega (arith, length-take-le m xs k)) (get_or-take m xs i 0 l ∙ e)
 
 -- what holds from m up to i, and at i, holds up to i + 1
 pub passed : (P : ℕ → Type 0) (m i : ℕ) → ((k : ℕ) → m ≤ k → k < i → P k) → P i → (k : ℕ) → m ≤ k → k < i + 1 → P k

@@ -5,7 +5,8 @@ use mathlib.Core.List.{List, [], ◌∷◌}
 use Prim.Native.Nat.{ℕ, zero, suc, ◌+◌, ◌-◌, ◌≤◌, ◌<◌}
 use native.Mathlib.Omega.{arith}
 use native.Mathlib.Numerals.{add-one}
-use lib.ListN.{length, get_or, drop, length-drop, drop_of_length-le}
+use lib.ListN.{length, get_or, take, drop, length-drop, drop_of_length-le}
+use Rattle.std.proofs.lemmas.List.{take_rest}
 use lib.Seq.{get_or-drop, drop-cons}
 use Rattle.numbers.specs.Lists.{both, every}
 use Rattle.numbers.proofs.Lists.{both_fst, both_snd, both_true, both_none}
@@ -42,14 +43,14 @@ module _ {A : Type 0} (p : A → Bool) (x : A) where
   unfolding every
   every_step xs i l = rw (add-one i, drop-cons xs i x l)
 
-  pub every_next : (xs : List A) (i : ℕ) → i < length xs → p (get_or xs i x) ≡ true → every p (drop i xs) ≡ every p (drop (i + 1) xs)
-  unfolding every
-  every_next xs i l e = rw (add-one i, drop-cons xs i x l, e)
-
-  pub every_stop : (xs : List A) (i : ℕ) → i < length xs → p (get_or xs i x) ≡ false → every p (drop i xs) ≡ false
-  unfolding every
-  every_stop xs i l e = rw (drop-cons xs i x l, e)
-
   pub every_end : (xs : List A) (i : ℕ) → length xs ≤ i → every p (drop i xs) ≡ true
   unfolding every
   every_end xs i l = rw (drop_of_length-le xs {i = i} l)
+
+-- each number of the rest of a list, `xs[n..]`, is 0
+pub zero_from : (n : ℕ) (xs : List ℕ) → ((i : ℕ) → i < length (take (length xs - n) (drop n xs)) → get_or (take (length xs - n) (drop n xs)) i 0 ≡ 0)
+    → (i : ℕ) → n ≤ i → i < length xs → get_or xs i 0 ≡ 0
+zero_from n xs h i l m =
+    let q : n + (i - n) ≡ i = omega arith in
+    let r : (i : ℕ) → i < length (drop n xs) → get_or (drop n xs) i 0 ≡ 0 = rw take_rest at h in
+    ap (λ k. get_or xs k 0) (sym q) ∙ sym (get_or-drop n xs (i - n) 0) ∙ r (i - n) (omega (arith, length-drop n xs))

@@ -1,5 +1,8 @@
-// The nearest of a fraction, signed amounts and their sums, buckets of numbers, and the numbers of refusals.
+// The nearest of a fraction, signed amounts and their sums, numbers that stand twice, and the numbers of refusals.
 #![tactic(auto)]
+
+pub mod distinct;
+mod marks;
 
 ghost use Rattle.numbers.specs.Refusals.{Numbers};
 ghost use Rattle.std.specs.Prelude.{◌≡◌, false, not, ℕ, ◌≤◌, ◌<◌, leb, pos, nat_abs, ◌+ℤ◌, ◌-ℤ◌, length, replicate};
@@ -7,7 +10,6 @@ ghost use Rattle.numbers.specs.Sums.{atZ, totalZ};
 ghost use Rattle.numbers.specs.Amounts.{SAFE, Within, Between, Decides, is_negative, signed};
 ghost use Rattle.numbers.specs.Lists.{every};
 ghost use Rattle.numbers.specs.Nearest.{nearest};
-ghost use Rattle.numbers.specs.Buckets.{BUCKETS};
 
 // ---- the table of document 01, section "Refusals"
 
@@ -163,16 +165,4 @@ pub fn all_zero(xs: &[i64], from: usize) -> bool
         bits |= xs[i];
     }
     bits == 0
-}
-
-// ---- a number that stands twice
-
-// Numbers are sorted into so many buckets by their remainder: only one whose bucket is marked is searched among those before it.
-pub const BUCKETS: usize = 1024;
-
-// No bucket is marked.
-pub fn unmarked() -> [bool; BUCKETS]
-    ensures { result ≡ replicate BUCKETS false }
-{
-    repeat(false)
 }

@@ -2,7 +2,6 @@
 // other languages.
 #![tactic(auto)]
 
-mod keys;
 pub mod largest_remainder;
 mod leftover;
 
@@ -67,7 +66,7 @@ fn none_above(ws: &[u64]) -> bool
 }
 
 // Whether the amount can be prorated over the weights.
-#[tactic(auto, unfolding(crate::specs::Call::in_range))]
+#[tactic(auto, using(numbers::proofs::Lists::distinct_map), unfolding(crate::specs::Call::in_range))]
 fn in_range(amount: i64, ws: &[u64], keys: &[u64]) -> bool
     ensures { result ≡ in_range amount ws.now keys.now }
 {
@@ -76,7 +75,7 @@ fn in_range(amount: i64, ws: &[u64], keys: &[u64]) -> bool
         && ws.len() <= PARTIES
         && keys.len() == ws.len()
         && none_above(ws)
-        && keys::are_distinct(keys)
+        && numbers::distinct::are_distinct(keys)
 }
 
 // The signed amount prorated over the weights, by any arguments.

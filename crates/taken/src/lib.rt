@@ -39,8 +39,8 @@ fn head_right(measurement: Option<Measurement>, n: usize, users: &[u16]) -> bool
     ensures { Decides result (Head measurement n users.now) }
 {
     n <= USERS
-        && user_numbers::none_past(users, n)
-        && user_numbers::numbers_right(users, n)
+        && user_numbers::all_zero(&users[n..])
+        && user_numbers::numbers_right(&users[..n])
         && measurement_right(measurement)
 }
 

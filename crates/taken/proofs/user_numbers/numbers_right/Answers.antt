@@ -1,37 +1,18 @@
--- `taken::user_numbers::numbers_right` meets its contract: the numbers passed so far are above 0 and distinct, and their buckets are marked. Assumes nothing.
-use mathlib.Core.Path.{◌≡◌, sym, ◌∙◌}
-use mathlib.Core.Bool.{not}
-use native.Mathlib.Omega.{arith}
-use lib.ListN.{take}
+-- `taken::user_numbers::numbers_right` meets its contract. Assumes nothing.
+use Rattle.std.proofs.Common.{◌≡◌, true, false, sym, ◌∙◌}
 use Rattle.numbers.specs.Lists.{has}
-use Rattle.numbers.proofs.Lists.{both_none, scan_none, scan_more, scan_found}
-use Rattle.numbers.proofs.Buckets.{scanned_none, scanned_more, scanned_twice}
+use Rattle.numbers.proofs.Chains.{any_is_has}
+use Rattle.numbers.proofs.Lists.{distinct_map}
 use Rattle.taken.proofs.user_numbers.numbers_right.Goals as goal
 
-pub loop-i-init : goal.loop-i-init
-loop-i-init c = (omega arith, scan_none 0, rw c.unmarked-marked.ensures (scanned_none _))
-
-pub returns-then-user-eq0 : goal.returns-then-user-eq0
-returns-then-user-eq0 c =
-    rw (scan_found 0 c.args.users.now c.loop-i.i c.args.count (omega arith) c.requires c.if-user-eq0.true)
-
-pub returns-then-stands_before : goal.returns-then-stands_before
-returns-then-stands_before c =
-    let l = c.loop-i in
-    rw (scanned_twice c.args.users.now l.marked l.i c.args.count (omega arith) c.requires (sym c.stands_before.ensures ∙ c.if-stands_before.true))
-    (sym (both_none (not (has 0 (take c.args.count c.args.users.now)))))
-
-pub loop-i-preserved : goal.loop-i-preserved
-loop-i-preserved c =
+pub returns-then-not-contains : goal.returns-then-not-contains
+returns-then-not-contains c =
     let us = c.args.users.now in
-    let l = c.loop-i in (
-      omega arith,
-      scan_more 0 us l.i (omega arith) l.invariant.1 c.if-user-eq0.false,
-      scanned_more us l.marked l.i (omega arith) l.invariant.2 (sym c.stands_before.ensures ∙ c.if-stands_before.false),
-    )
+    let e : has 0 us ≡ false = sym (any_is_has 0 us) ∙ sym c.contains.ensures.value ∙ c.if-not-contains.true in
+    rw e (c.are_distinct.ensures ∙ distinct_map us)
 
-pub returns : goal.returns
-returns c =
-    let l = c.loop-i in
-    let e : l.i ≡ c.args.count = omega arith in
-    rw (← e, l.invariant.1, l.invariant.2.apart)
+pub returns-else-not-contains : goal.returns-else-not-contains
+returns-else-not-contains c =
+    let us = c.args.users.now in
+    let e : has 0 us ≡ true = sym (any_is_has 0 us) ∙ sym c.contains.ensures.value ∙ c.if-not-contains.false in
+    rw (e, c.if-not-contains.false)
