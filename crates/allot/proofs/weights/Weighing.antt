@@ -4,21 +4,14 @@ use mathlib.Core.Bool.{Bool, true, false}
 use mathlib.Core.List.{List, [], ◌∷◌, map, zip_with}
 use Prim.Native.Nat.{ℕ, zero, suc, ◌+◌, ◌*◌, ◌≤◌, ◌<◌}
 use native.Mathlib.Omega.{arith}
-use lib.IntN.{ℤ, pos, nat_abs, ◌+ℤ◌}
+use lib.IntN.{ℤ, pos, nat_abs}
 use lib.ListN.{length, get_or, drop, length-map}
 use lib.Seq.{get_or-take, get_or-drop}
-use mir.Syntax.{w64}
-use mir.Val.{of_z, to_z, SFits}
 use Rattle.numbers.specs.Sums.{pick, atZ, Bounded}
-use Rattle.numbers.specs.Amounts.{Between}
-use Rattle.numbers.proofs.Amounts.{pos_size}
-use Rattle.proration.specs.Proration.{LARGEST_WEIGHT}
-use Rattle.point_day.specs.Limits.{USERS, CELLS, KINDS, LIMIT}
+use Rattle.point_day.specs.Limits.{USERS, CELLS, KINDS}
 use Rattle.point_day.specs.Calls.{by_basis}
 use Rattle.point_day.specs.Struct.{kinds_of}
 use Rattle.point_day.proofs.Arrays.{Full}
-use Rattle.state.proofs.Cells.{between_sign, low_size}
-use Rattle.state.proofs.Ranges.{added_is, added_fits}
 use Rattle.state.proofs.Totals.{kinds_long}
 use Rattle.allot.specs.UserWeights.{consumption_and_losses}
 

@@ -1,7 +1,6 @@
 -- `allot::shares::spread` meets its contract: by the kinds' weights, or all to kind 1. Assumes nothing.
 use mathlib.Core.Path.{refl}
 use Rattle.numbers.specs.Sums.{total}
-use Rattle.numbers.proofs.Amounts.{back}
 use Rattle.proration.specs.Proration.{LARGEST_WEIGHT}
 use Rattle.allot.proofs.weights.Weighing.{bounded_five}
 use native.Mathlib.Omega.{arith}
