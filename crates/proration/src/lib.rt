@@ -16,6 +16,29 @@ pub fn weight_total(ws: &[u64]) -> u64
     ws.iter().sum()
 }
 
+// The weights of a split, each at most the largest, with their sum, W. (Handed on by value: behind a reference the sum would be read again
+// after each write to the shares.)
+#[derive(Clone, Copy)]
+pub struct Weights<'a> {
+    pub each: &'a [u64],
+    pub sum: u64,
+    pub ghost summed: { sum ≡ total each.now },
+    pub ghost bounded: { Bounded LARGEST_WEIGHT each.now },
+}
+
+impl<'a> Weights<'a> {
+    // These weights, with their sum added up.
+    pub fn of(each: &'a [u64]) -> Weights<'a>
+        requires { (length each.now ≤ PARTIES) × Bounded LARGEST_WEIGHT each.now }
+        ensures { result.each.now ≡ each.now }
+    {
+        Weights {
+            each,
+            sum: weight_total(each),
+        }
+    }
+}
+
 // A party that waits for a unit: its remainder, and its key, which tells equal remainders apart.
 #[derive(Clone, Copy)]
 pub struct Party {
@@ -65,28 +88,6 @@ impl<'a> Parties<'a> {
             count += u64::from(self.at(j).goes_before(party));
         }
         count
-    }
-}
-
-// The weights of a split, each at most the largest, with their sum, W.
-#[derive(Clone, Copy)]
-pub struct Weights<'a> {
-    pub each: &'a [u64],
-    pub sum: u64,
-    pub ghost summed: { sum ≡ total each.now },
-    pub ghost bounded: { Bounded LARGEST_WEIGHT each.now },
-}
-
-impl<'a> Weights<'a> {
-    // These weights, with their sum added up.
-    pub fn of(each: &'a [u64]) -> Weights<'a>
-        requires { (length each.now ≤ PARTIES) × Bounded LARGEST_WEIGHT each.now }
-        ensures { result.each.now ≡ each.now }
-    {
-        Weights {
-            each,
-            sum: weight_total(each),
-        }
     }
 }
 
