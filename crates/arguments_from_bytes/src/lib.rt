@@ -57,6 +57,7 @@ pub fn read_rows(input: &mut Input) -> Result<StandInRows, Malformed>
 
 // ---- load
 
+// (A match on the byte: it is the format's table of stages, read here alone. A TryFrom would have to stand in point_day, with Stage.)
 fn read_stage(input: &mut Input) -> Result<Stage, Malformed>
     ensures { length input.new ≤ length input.old }
 {

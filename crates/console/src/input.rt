@@ -75,7 +75,7 @@ impl<'a> Input<'a> {
         }
     }
 
-    // The next byte, which is 0 or 1.
+    // The next byte, which is 0 or 1. (A match on the byte: no TryFrom of std makes a bool of a number.)
     pub fn flag(&mut self) -> Result<bool, Malformed>
         ensures ok { IsOk result ↔ (1 ≤ length self.old) × (little_endian 1 self.old 0 < 2) }
         ensures value { IfOk result (λ b. bit b ≡ little_endian 1 self.old 0) }

@@ -59,7 +59,8 @@ pub fn pass_winter(input: &mut Input) -> Result<(), Malformed>
     Ok(())
 }
 
-// The next entry of a history.
+// The next entry of a history. (A match on the tag: it is the format's table of readings, and the value behind it goes into the reading,
+// which no TryFrom of the tag has.)
 fn read_entry(input: &mut Input) -> Result<Entry, Malformed>
     ensures { length input.new ≤ length input.old }
 {
