@@ -61,9 +61,6 @@ module _ {us : List ℕ} {count sum : ℕ} {d : PointDay} (s : Stands us count s
   pub few : count ≤ USERS
   few = omega (arith, fact.few, s.joined)
 
-  pub users_long : length us ≡ USERS
-  users_long = sym (ap length s.users) ∙ s.sized.users
-
   pub sum_small : sum ≤ LIMIT
   sum_small = rw s.sum (taken_facts d s.is_taken).offtake
 

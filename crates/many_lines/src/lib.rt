@@ -2,7 +2,7 @@
 // from line to line.
 #![tactic(auto)]
 
-ghost use Rattle.std.specs.Prelude.{◌≡◌, true, [], ◌∷◌, ◌≤◌, ◌<◌, eqb, pos, length};
+ghost use Rattle.std.specs.Prelude.{◌≡◌, true, [], ◌∷◌, ◌≤◌, ◌<◌, eqb, pos, length, take};
 ghost use Rattle.numbers.specs.Sums.{pick, at};
 ghost use Rattle.numbers.specs.Refusals.{status_of};
 ghost use Rattle.point_day.specs.Limits.{USERS};
@@ -19,7 +19,8 @@ use plain_day::writes;
 
 // ---- A user's slot
 
-// Hints where a user may stand, by the remainder of its number. (A table and no map: nothing is allocated.)
+// Hints where a user may stand, by the remainder of its number. (A table and no map: nothing is allocated. A hint is tested before it is
+// used, so 0 does where there is none.)
 const HINTS: usize = 1024;
 
 // Slots by the remainder of the user number; of two users with the same remainder the later one is hinted at.
@@ -48,7 +49,7 @@ fn slot_near(hints: &[u8], slots: &[u16], user: u16) -> Option<usize>
 
 // ---- The lines
 
-// Lines in four lists of equal length.
+// Lines in four lists of equal length. (Not a list of lines: callers in other languages lend the lists, and nothing is copied.)
 #[derive(Clone, Copy)]
 struct LineLists<'a> {
     users: &'a [u16],
@@ -106,18 +107,17 @@ fn entered(end: Result<(), Refusal>, accepted: usize, losses: u64) -> LinesEnter
     }
 }
 
-// Line after line until one is refused, on a taken point-day that is entering.
+// Line after line until one is refused, on a taken point-day that is entering, and of which these users have joined.
 fn enter_lines<'a>(
     day: &mut [i64],
-    slots: &'a [u16],
-    count: usize,
+    joined: &'a [u16],
     offtake: u64,
     lines: &'a LineLists<'a>,
 ) -> LinesEntered
-    requires taken { (is_readable day.old ≡ true) × Stands slots.now count offtake (day_in day.old) }
+    requires taken { (is_readable day.old ≡ true) × Stands (day_in day.old).users (length joined.now) offtake (day_in day.old) }
+    requires joined { joined.now ≡ take (length joined.now) (day_in day.old).users }
     ensures { plain (status_of result.end) (pos result.accepted ∷ pos result.losses ∷ []) day.new ≡ in_numbers (line_calls (lines_in lines.now.users.now lines.now.kinds.now lines.now.consumptions.now lines.now.coefficients.now) (day_in day.old)) day.old }
 {
-    let joined = &slots[..count];
     let hints = hints_of(joined);
     let mut sum = offtake;
     let mut losses: u64 = 0;
@@ -152,6 +152,7 @@ fn refuse_first(n: usize) -> Result<(), Refusal>
 }
 
 // Many lines: line after line until one is refused; how many were accepted, and the losses that they added, are given in every case.
+#[tactic(auto, using(taken::proofs::Facts::known_few))]
 pub fn lines<'a>(
     day: &mut [i64],
     users: &'a [u16],
@@ -176,8 +177,9 @@ pub fn lines<'a>(
                 consumptions,
                 coefficients,
             };
+            let joined = &state.users[..state.count];
             let offtake = state.sum as u64;
-            enter_lines(day, &state.users, state.count, offtake, &lines)
+            enter_lines(day, joined, offtake, &lines)
         }
     }
 }

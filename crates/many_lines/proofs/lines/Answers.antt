@@ -1,10 +1,31 @@
 -- `many_lines::lines` meets its contract: its tests one after the other, then the lines. Assumes nothing.
-use mathlib.Core.Path.{sym, ◌∙◌}
+use mathlib.Core.Path.{◌≡◌, refl, sym, ap, ◌∙◌}
+use Prim.Native.Nat.{ℕ, ◌≤◌}
 use native.Mathlib.Omega.{arith}
-use Rattle.taken.proofs.Facts.{known_sum, sum_fits}
+use lib.Seq.{length-take-le}
+use lib.ListN.{length, take}
+use Rattle.point_day.specs.declared.PointDay.{PointDay}
+use Rattle.line.specs.Lined.{Stands}
+use Rattle.taken.specs.declared.State.{State}
+use Rattle.taken.specs.Tested.{Known}
+use Rattle.taken.proofs.Facts.{known_few, known_sum, sum_fits}
 use Rattle.line.proofs.Lining.{stands}
 use Rattle.many_lines.proofs.Lining.{unequal, no_day, lines_done, not_entering}
 use Rattle.many_lines.proofs.lines.Goals as goal
+
+-- the users that have joined, as a list of their own
+module _ {d : PointDay} {s : State} (k : Known d s) where
+  few : s.count ≤ length s.users
+  few = omega (arith, known_few k, ap length k.users, k.sized.users)
+
+  count_is : length (take s.count s.users) ≡ s.count
+  count_is = length-take-le s.count s.users few
+
+  first_users : take s.count s.users ≡ take (length (take s.count s.users)) d.users
+  first_users = rw count_is (ap (take s.count) (sym k.users))
+
+  joined_stand : {sum : ℕ} → Stands s.users s.count sum d → Stands d.users (length (take s.count s.users)) sum d
+  joined_stand t = record { sized = t.sized; is_taken = t.is_taken; entering = t.entering; users = refl; joined = t.joined ∙ sym count_is; sum = t.sum }
 
 pub returns-then-not-same_lengths : goal.returns-then-not-same_lengths
 returns-then-not-same_lengths c =
@@ -36,7 +57,7 @@ overflow_cast-offtake c =
 
 pub enter_lines-requires : goal.enter_lines-requires
 enter_lines-requires c =
-    let t = c.in-Ok.ensures in record { taken = (t.0, stands t.1 c.if-state.false) }
+    let t = c.in-Ok.ensures in record { taken = (t.0, joined_stand t.1 (stands t.1 c.if-state.false)); joined = first_users t.1 }
 
 pub returns-else-state : goal.returns-else-state
 returns-else-state c =
