@@ -29,7 +29,7 @@ pub enum DayType {
     SundayOrHoliday,
 }
 
-// A gas day and the holidays of its calendar, which rise.
+// A gas day and the holidays of its calendar, which rise. (Calls take the two apart and make this of them: they refuse wrong ones.)
 #[derive(Clone, Copy)]
 pub struct Calendar<'a> {
     pub day: u32,

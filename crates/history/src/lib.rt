@@ -32,7 +32,8 @@ pub struct Entry {
     pub reading: Reading,
 }
 
-// What a search finds: the sum and the number of the matches, the entries looked at, and whether any entry is real.
+// What a search finds: the sum and the number of the matches, the entries looked at, and whether any entry is real. (`real` flags none of
+// the others: where nothing matches, it tells whether the consumer is new.)
 #[derive(Clone, Copy)]
 pub struct Found {
     pub sum: u64,

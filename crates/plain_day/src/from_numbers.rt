@@ -15,7 +15,7 @@ fn user_number(x: i64) -> u16
     x.unsigned_abs() as u16
 }
 
-// User numbers, in 16 bits.
+// User numbers, in 16 bits. (One by one, since each is converted.)
 pub fn copy_users(xs: &[i64], users: &mut [u16])
     requires { (length users.old ≡ length xs.now) × (every (up_to LAST_NUMBER) xs.now ≡ true) }
     ensures { users.new ≡ map nat_abs xs.now }
@@ -25,6 +25,7 @@ pub fn copy_users(xs: &[i64], users: &mut [u16])
     }
 }
 
+// The stage of a number. (No error, and so no `TryFrom`: of the numbers that are readable, only 2 is left for the last.)
 pub fn stage_of(number: u64) -> Stage
     ensures { result ≡ stage_of number }
 {
@@ -35,6 +36,7 @@ pub fn stage_of(number: u64) -> Stage
     }
 }
 
+// The measurement of three numbers, of which the first tells whether there is one, as callers in other languages have them.
 pub fn measurement_of(measured: u64, emission: u64, downstream: u64) -> Option<Measurement>
     ensures { result ≡ measurement_of measured emission downstream }
 {
@@ -87,6 +89,7 @@ pub fn count_in(xs: &[i64]) -> usize
     size_at(xs, COUNT_AT) as usize
 }
 
+// The number of a stage. (A name for the cast, which promises nothing by itself.)
 pub fn stage_number(stage: Stage) -> i64
     ensures { result ≡ pos (stage_number stage) }
 {
