@@ -7,14 +7,13 @@ use Rattle.std.specs.Prelude.{Result, Ok, Err}
 use Rattle.numbers.specs.Refusals.{status_of}
 use Rattle.numbers.specs.declared.Refusal.{Refusal}
 use Rattle.calendar.specs.Answers.{answer_of}
-use Rattle.calendar.specs.declared.DayType.{DayType}
 use Rattle.degree_days.specs.Degrees as degrees
 use Rattle.inventory.specs.Inventory as inventory
 use Rattle.spread.specs.Spread as spread
 use Rattle.plain_day.specs.Plain.{plain, answered}
 use Rattle.in_place.specs.Listing as listing
 use Rattle.in_place.specs.Values.{amount}
-use Rattle.seatpomelo.specs.Settled.{settled, settles, value_or, number, size, type_number}
+use Rattle.seatpomelo.specs.Settled.{settled, settles, value_or, number, size}
 
 pub number_settled : (r : Result ℕ Refusal) (before : ℕ) → settled (status_of r) (value_or r before ∷ []) ≡ settles number (answer_of r) (before ∷ [])
 number_settled (Ok n) before = refl

@@ -1,5 +1,5 @@
 -- `seatpomelo::seatpomelo_line` meets its contract. Assumes nothing.
-use mathlib.Core.Path.{ap, ◌∙◌}
+use mathlib.Core.Path.{◌∙◌}
 use mathlib.Core.List.{[], ◌∷◌}
 use lib.IntN.{pos}
 use Rattle.seatpomelo.proofs.Settling.{amount_settled}

@@ -1,7 +1,7 @@
 -- `seatpomelo::seatpomelo_month` meets its contract. Assumes nothing.
-use mathlib.Core.Path.{sym, ap, ◌∙◌}
+use mathlib.Core.Path.{ap}
 use mathlib.Core.List.{[], ◌∷◌}
-use Rattle.seatpomelo.specs.Settled.{settled, settles, month_numbers}
+use Rattle.seatpomelo.specs.Settled.{settles, month_numbers}
 use Rattle.seatpomelo.proofs.seatpomelo_month.Goals as goal
 
 pub returns-in-Ok : goal.returns-in-Ok

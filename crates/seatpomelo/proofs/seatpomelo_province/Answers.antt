@@ -1,7 +1,7 @@
 -- `seatpomelo::seatpomelo_province` meets its contract. Assumes nothing.
-use mathlib.Core.Path.{sym, ap, ◌∙◌}
+use mathlib.Core.Path.{ap}
 use mathlib.Core.List.{[], ◌∷◌}
-use Rattle.seatpomelo.specs.Settled.{settled, settles, province_numbers}
+use Rattle.seatpomelo.specs.Settled.{settles, province_numbers}
 use Rattle.seatpomelo.proofs.seatpomelo_province.Goals as goal
 
 pub returns-in-Ok : goal.returns-in-Ok

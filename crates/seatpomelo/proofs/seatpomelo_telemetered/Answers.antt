@@ -1,12 +1,11 @@
 -- `seatpomelo::seatpomelo_telemetered` meets its contract. Lists of unequal length and long ones are refused; else the answer of the call. Assumes nothing.
-use mathlib.Core.Path.{◌≡◌, sym, ap, ◌∙◌}
-use mathlib.Core.List.{List, [], ◌∷◌}
-use Prim.Native.Nat.{ℕ, ◌+◌}
+use mathlib.Core.Path.{sym, ap, ◌∙◌}
+use mathlib.Core.List.{[], ◌∷◌}
+use Prim.Native.Nat.{◌+◌}
 use native.Mathlib.Omega.{arith}
 use lib.ListN.{length}
 use borrow.Author.Tests.{eq-eqb, ne_eqb}
 use Rattle.history.specs.History.{ENTRIES}
-use Rattle.calendar.specs.Answers.{answer_of}
 use Rattle.seatpomelo.specs.Settled.{settles, estimate_numbers}
 use Rattle.plain_values.specs.Lists.{amount_in, flows_in, entries_in}
 use Rattle.plain_values.proofs.Optional.{same_answer, too_long, all_entries}
