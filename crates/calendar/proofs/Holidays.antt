@@ -1,6 +1,6 @@
 -- A list of holidays, place by place: as stated or not, and a day among them or not. Assumes nothing.
 use mathlib.Core.Path.{◌≡◌, refl, sym, ap}
-use mathlib.Core.Bool.{true, false}
+use mathlib.Core.Bool.{true}
 use mathlib.Core.List.{List, [], ◌∷◌}
 use mathlib.Core.Logic.{⊎_elim}
 use Prim.Native.Nat.{ℕ, zero, suc, ◌+◌, ◌-◌, ◌≤◌, ◌<◌}
@@ -9,7 +9,7 @@ use native.Mathlib.Nat.{le_of_eq}
 use lib.Dec.{leb, ltb}
 use lib.ListN.{length, drop}
 use lib.Seq.{drop-cons}
-use borrow.Author.Tests.{le-leb, lt-leb, leb-true, ltb-true, ne_eqb}
+use borrow.Author.Tests.{le-leb, lt-leb, leb-true, ltb-true}
 use Rattle.std.specs.Prelude.{Result, Ok, Err, is_ok}
 use Rattle.std.specs.Ordering.{nat_cmp}
 use Rattle.std.specs.List.Sorted.{IsBinarySearchResult}
@@ -17,16 +17,10 @@ use Rattle.std.proofs.lemmas.List.Sorted.{searched}
 use Rattle.numbers.specs.Sums.{at}
 use Rattle.numbers.specs.Lists.{both, every, has, rising}
 use Rattle.numbers.proofs.Sums.{lt_or_ge}
-use Rattle.numbers.proofs.Lists.{has_at, both_fst, both_snd, both_end, both_none}
+use Rattle.numbers.proofs.Lists.{has_at, both_fst, both_snd, both_end, both_none, has_none}
 use Rattle.calendar.specs.Days.{LAST_DAY, MOST_HOLIDAYS, is_gas_day, holidays_right, calendar_right}
 
 -- ---- a day among the holidays
-
-pub has_none : (d : ℕ) (hs : List ℕ) → ((k : ℕ) → k < length hs → at hs k ≡ d → ⊥) → has d hs ≡ false
-unfolding has
-has_none d [] h = refl
-has_none d (x ∷ xs) h =
-    rw (ne_eqb d x (λ e. h 0 (omega arith) (sym e))) (has_none d xs (λ k l e. h (suc k) (omega arith) e))
 
 -- of rising numbers, a later one is higher
 pub rising_lt : (hs : List ℕ) → rising hs ≡ true → (i j : ℕ) → i < j → j < length hs → at hs i < at hs j

@@ -1,22 +1,18 @@
 -- Everything that the users of a point-day have, added up over its arrays, is the sum of their whole amounts. Assumes nothing.
-use mathlib.Core.Path.{◌≡◌, refl, sym, ap, ap₂, ◌∙◌}
-use mathlib.Core.List.{List, [], ◌∷◌, ◌++◌, map}
+use mathlib.Core.Path.{◌≡◌, refl, ap, ap₂, ◌∙◌}
+use mathlib.Core.List.{List, [], ◌∷◌, map}
 use Prim.Native.Nat.{ℕ, zero, suc, ◌-◌}
-use lib.IntN.{ℤ, pos, ◌+ℤ◌, +ℤ_assoc, +ℤ_idl, +ℤ_idr}
+use lib.IntN.{ℤ, pos, ◌+ℤ◌, +ℤ_idr}
 use lib.ListN.{length, replicate}
 use Rattle.numbers.specs.Sums.{total, totalZ}
 use Rattle.numbers.specs.Lists.{flat}
 use Rattle.numbers.proofs.Lists.{map_map, map_eq}
 use Rattle.numbers.proofs.Amounts.{exchange}
+use Rattle.numbers.proofs.Sums.{totalZ_append}
 use Rattle.point_day.specs.Limits.{USERS, CELLS}
 use Rattle.point_day.specs.Day.{User, Day, all_whole}
 use Rattle.point_day.specs.Struct.{padded, laid}
 use Rattle.day_book.specs.Arrays.{everything}
-
-append_sum : (xs ys : List ℤ) → totalZ (xs ++ ys) ≡ totalZ xs +ℤ totalZ ys
-unfolding totalZ
-append_sum [] ys = sym (+ℤ_idl (totalZ ys))
-append_sum (x ∷ xs) ys = ap (λ z. x +ℤ z) (append_sum xs ys) ∙ sym (+ℤ_assoc x (totalZ xs) (totalZ ys))
 
 zeros_sum : (n : ℕ) → totalZ (replicate n (pos 0)) ≡ pos 0
 unfolding totalZ
@@ -26,12 +22,12 @@ zeros_sum (suc n) = ap (λ z. pos 0 +ℤ z) (zeros_sum n)
 padded_sum : (n : ℕ) (xs : List ℤ) → totalZ (padded n (pos 0) xs) ≡ totalZ xs
 unfolding padded
 padded_sum n xs =
-    append_sum xs (replicate (n - length xs) (pos 0)) ∙ ap (λ z. totalZ xs +ℤ z) (zeros_sum (n - length xs)) ∙ +ℤ_idr (totalZ xs)
+    totalZ_append xs (replicate (n - length xs) (pos 0)) ∙ ap (λ z. totalZ xs +ℤ z) (zeros_sum (n - length xs)) ∙ +ℤ_idr (totalZ xs)
 
 flat_sum : (zss : List (List ℤ)) → totalZ (flat zss) ≡ totalZ (map totalZ zss)
 unfolding flat totalZ
 flat_sum [] = refl
-flat_sum (zs ∷ zss) = append_sum zs (flat zss) ∙ ap (λ z. totalZ zs +ℤ z) (flat_sum zss)
+flat_sum (zs ∷ zss) = totalZ_append zs (flat zss) ∙ ap (λ z. totalZ zs +ℤ z) (flat_sum zss)
 
 numbers_sum : (ns : List ℕ) → totalZ (map pos ns) ≡ pos (total ns)
 unfolding total totalZ

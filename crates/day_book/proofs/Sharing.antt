@@ -10,7 +10,7 @@ use lib.Signed.{le_z}
 use borrow.Author.Tests.{not-false}
 use Rattle.numbers.specs.Sums.{pick, total}
 use Rattle.numbers.specs.Lists.{both, either, every, has, distinct, rising}
-use Rattle.numbers.proofs.Lists.{All, never, true≢false, both_snd, either_fst, either_snd, map_map, map_eq}
+use Rattle.numbers.proofs.Lists.{All, never, true≢false, both_snd, either_fst, either_snd, map_map, map_eq, either_none}
 use Rattle.proration.specs.Proration.{prorateZ}
 use Rattle.point_day.specs.Limits.{USERS, AMOUNT, ROWS, TOLERANCE}
 use Rattle.point_day.specs.Day as day
@@ -41,10 +41,6 @@ use Rattle.day_book.proofs.Lines.{newcomer_empty}
 use Rattle.day_book.proofs.Entering.{entering_row}
 use Rattle.day_book.proofs.Agreeing.{Kept, users_apart, measured_right, Agree, row}
 use Rattle.std.specs.Prelude.{Option, None, Some}
-
-either_none : (p : Bool) → either p false ≡ p
-either_none true = refl
-either_none false = refl
 
 unmeasured_is : (m : Option Measurement) → unmeasured m ≡ not (is_measured m)
 unmeasured_is None = refl

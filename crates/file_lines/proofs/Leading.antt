@@ -12,6 +12,7 @@ use Rattle.numbers.specs.Refusals.{number_of}
 use Rattle.numbers.specs.Sums.{table}
 use Rattle.numbers.specs.Lists.{flat}
 use Rattle.numbers.proofs.Refusals.{refused_not_0}
+use Rattle.numbers.proofs.Lists.{flat_append}
 use Rattle.point_day.specs.Day.{measurement_right}
 use Rattle.point_day.specs.Calls.{line_right}
 use Rattle.point_day.specs.declared.Measurement.{Measurement}
@@ -62,11 +63,6 @@ table_rest f n t l = let e : n + (t - n) ≡ t = omega arith in ap (table f) (sy
 pub table_next : {A : Type 0} (f : ℕ → A) (n : ℕ) → table f n ++ (f n ∷ []) ≡ table f (n + 1)
 unfolding table
 table_next f n = rw (add-one n)
-
-flat_append : {A : Type 0} (xs ys : List (List A)) → flat (xs ++ ys) ≡ flat xs ++ flat ys
-unfolding flat
-flat_append [] ys = refl
-flat_append (x ∷ xs) ys = ap (λ t. x ++ t) (flat_append xs ys) ∙ sym (append_assoc x (flat xs) (flat ys))
 
 pub flat_next : {A : Type 0} (f : ℕ → List A) (n : ℕ) → flat (table f n) ++ f n ≡ flat (table f (n + 1))
 unfolding table

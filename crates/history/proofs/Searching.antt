@@ -11,6 +11,7 @@ use lib.Seq.{drop-cons, take-nil}
 use borrow.Author.Tests.{eq-eqb, ne_eqb, eqb-true, leb-true}
 use Rattle.numbers.specs.Sums.{pick, total}
 use Rattle.numbers.specs.Lists.{either}
+use Rattle.numbers.proofs.Lists.{either_none, either_end}
 use Rattle.std.specs.Prelude.{None}
 use Rattle.calendar.specs.DayTypes.{day_type, same_type}
 use Rattle.calendar.specs.declared.DayType.{DayType}
@@ -31,14 +32,6 @@ nothing = record { reading = Nothing }
 last_day : ℕ → List RealReading → ℕ
 last_day x [] = x
 last_day x (m ∷ ms) = last_day m.day ms
-
-either_false : (b : Bool) → either b false ≡ b
-either_false true = refl
-either_false false = refl
-
-either_yes : (b : Bool) → either b true ≡ true
-either_yes true = refl
-either_yes false = refl
 
 module _ (hs : List ℕ) (d n : ℕ) where
   abbrev t : DayType
@@ -118,14 +111,14 @@ module _ (hs : List ℕ) (d n : ℕ) where
       -- a real reading on a day of another type
       pub other : same_type (day_type hs (d - (i + 1))) t ≡ false → whole sum matches real i (m ∷ rs) ≡ whole sum matches true (i + 1) rs
       unfolding whole matching
-      other e = rw (e, either_yes real) (made_idle sum matches true (d - i) (d - (i + 1)) few _)
+      other e = rw (e, either_end real) (made_idle sum matches true (d - i) (d - (i + 1)) few _)
 
       -- a match
       pub match : same_type (day_type hs (d - (i + 1))) t ≡ true → whole sum matches real i (m ∷ rs) ≡ whole (sum + v) (matches + 1) true (i + 1) rs
       unfolding whole matching
       match e =
           let k : MATCHES - matches ≡ suc (MATCHES - (matches + 1)) = omega arith in
-          rw (e, k, either_yes real) (made_match sum matches true (d - i) m _)
+          rw (e, k, either_end real) (made_match sum matches true (d - i) m _)
 
 -- ---- the loop
 
@@ -223,4 +216,4 @@ module _ (hs : List ℕ) (d : ℕ) (es : List Entry) where
     at_end more e =
         sym
         (g.is
-        ∙ rw (drop_of_length-le es {i = i} (omega arith), take-nil (MATCHES - matches), either_false real) (made_end hs d (length es) sum matches real (d - i) i (rw (ne_eqb matches MATCHES more) (sym e))))
+        ∙ rw (drop_of_length-le es {i = i} (omega arith), take-nil (MATCHES - matches), either_none real) (made_end hs d (length es) sum matches real (d - i) i (rw (ne_eqb matches MATCHES more) (sym e))))

@@ -12,7 +12,7 @@ use Rattle.numbers.specs.Sums.{bit, pick, sum, table, at, atZ, total}
 use Rattle.numbers.specs.Lists.{both, flat}
 use Rattle.numbers.specs.Amounts.{is_negative}
 use Rattle.numbers.proofs.Sums.{total_append}
-use Rattle.numbers.proofs.Lists.{map_append}
+use Rattle.numbers.proofs.Lists.{map_append, flat_append}
 use Rattle.numbers.proofs.Amounts.{pos_size}
 use Rattle.point_day.specs.Limits.{KINDS}
 use Rattle.point_day.specs.Day.{is_zero}
@@ -48,11 +48,6 @@ those_count (r ∷ rs) = go (some_amount r) (those_count rs)
         → length (pick p (r ∷ those some_amount rs) (those some_amount rs)) ≡ bit p + total (map (λ r. bit (some_amount r)) rs)
     go true h = omega arith
     go false h = omega arith
-
-flat_append : {A : Type 0} (xss yss : List (List A)) → flat (xss ++ yss) ≡ flat xss ++ flat yss
-unfolding flat
-flat_append [] yss = refl
-flat_append (xs ∷ xss) yss = ap (λ t. xs ++ t) (flat_append xss yss) ∙ sym (append_assoc xs (flat xss) (flat yss))
 
 -- ---- a kind of a slot is a cell
 

@@ -10,7 +10,7 @@ use lib.Arith.{lt-one}
 use lib.Count.{ones_in, ones, ones_step, ones_cat}
 use lib.Pow.{pow_mono, pow-lt, shr_lt}
 use Rattle.numbers.specs.Sums.{bit, sum}
-use Rattle.numbers.proofs.Sums.{sum_more, sum_one, sum_lt, bit_one, bit_small, bits_le}
+use Rattle.numbers.proofs.Sums.{sum_more, sum_one, sum_lt, bit_one, bit_small, bits_le, sum_ones}
 use Rattle.calendar.specs.DayTypes.{is_working}
 use Rattle.months.specs.WorkingDays.{MASK_BITS, working_mask, N_lab}
 use Rattle.months.specs.declared.Month.{Month}
@@ -76,11 +76,6 @@ module _ (hs : List ℕ) (m : Month) (short : m.days < MASK_BITS) where
   unfolding working_mask
   working_count = sym counted ∙ ones_mask (λ i. is_working hs (m.first + i)) m.days
 
-ones_sum : (n : ℕ) → sum (λ i. 1) n ≡ n
-unfolding sum
-ones_sum zero = refl
-ones_sum (suc n) = omega (arith, ones_sum n)
-
 -- of a day of the month: N_lab is above 0 if it is a working day, and N_res if it is none
 module _ (hs : List ℕ) (d : ℕ) (m : Month) (h : Holds d m) where
   abbrev place : ℕ
@@ -107,7 +102,7 @@ module _ (hs : List ℕ) (d : ℕ) (m : Month) (h : Holds d m) where
       omega (
         arith,
         working_count hs m short,
-        ones_sum m.days,
+        sum_ones m.days,
         sum_lt (λ i. bit (is_working hs (m.first + i))) (λ i. 1) m.days (λ i l. bit_one (is_working hs (m.first + i))) place inside (omega (arith, bit_here false e)),
       )
 

@@ -76,6 +76,11 @@ pub pos_size : (z : ℤ) → is_negative z ≡ false → z ≡ pos (nat_abs z)
 pos_size (pos n) e = refl
 pos_size (negsuc n) e = absurd (subst T e tt)
 
+-- sizes are the sizes of themselves
+pub sizes_of_pos : (xs : List ℕ) → map nat_abs (map pos xs) ≡ xs
+sizes_of_pos [] = refl
+sizes_of_pos (x ∷ xs) = ap (λ t. x ∷ t) (sizes_of_pos xs)
+
 -- ---- sums
 
 pub within_first : (m : ℕ) (f : ℕ → ℤ) (n : ℕ) → ((i : ℕ) → i < n → Within m (f i)) → Within (n * m) (sumZ f n)

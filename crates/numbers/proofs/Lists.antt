@@ -7,12 +7,12 @@ use Prim.Native.Nat.{ℕ, zero, suc, ◌+◌, ◌≤◌, ◌<◌}
 use native.Mathlib.Omega.{arith}
 use native.Mathlib.Numerals.{add-one}
 use lib.Dec.{T, eqb, ltb}
-use lib.ListN.{length, get_or, take}
-use Rattle.std.proofs.lemmas.List.{map-id}
+use lib.ListN.{length, get_or, take, set}
+use Rattle.std.proofs.lemmas.List.{map-id, append_assoc, set-append_right}
 use lib.Seq.{take-suc}
 use borrow.Author.Tests.{ltb-true, eqb-false, eq-eqb, ne_eqb, not-true}
 use Rattle.numbers.specs.Sums.{table, at}
-use Rattle.numbers.specs.Lists.{both, either, every, has, distinct, Distinct, rising}
+use Rattle.numbers.specs.Lists.{both, either, every, has, distinct, Distinct, rising, flat}
 use Rattle.numbers.proofs.Sums.{lt_or_ge}
 
 -- ---- tests
@@ -49,6 +49,10 @@ both_and false q r = refl
 pub either_end : (p : Bool) → either p true ≡ true
 either_end true = refl
 either_end false = refl
+
+pub either_none : (p : Bool) → either p false ≡ p
+either_none true = refl
+either_none false = refl
 
 pub either_fst : (p q : Bool) → either p q ≡ false → p ≡ false
 either_fst true q e = true≢false e
@@ -125,6 +129,14 @@ module _ {A : Type 0} where
   pub map_eq : {B : Type 0} (f g : A → B) → ((x : A) → f x ≡ g x) → (xs : List A) → map f xs ≡ map g xs
   map_eq f g e [] = refl
   map_eq f g e (x ∷ xs) = ap₂ ◌∷◌ (e x) (map_eq f g e xs)
+
+  pub flat_append : (xss yss : List (List A)) → flat (xss ++ yss) ≡ flat xss ++ flat yss
+  unfolding flat
+  flat_append [] yss = refl
+  flat_append (xs ∷ xss) yss = ap (λ t. xs ++ t) (flat_append xss yss) ∙ sym (append_assoc xs (flat xss) (flat yss))
+
+  pub set_append_right : (xs ys : List A) (i : ℕ) (a : A) → set (xs ++ ys) (length xs + i) a ≡ xs ++ set ys i a
+  set_append_right xs ys i a = set-append_right xs ys (length xs) (length xs + i) a refl (omega arith) ∙ ap (λ k. xs ++ set ys k a) (omega arith)
 
   pub every_append : (p : A → Bool) (xs ys : List A) → every p xs ≡ true → every p ys ≡ true → every p (xs ++ ys) ≡ true
   unfolding every

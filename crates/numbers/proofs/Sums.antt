@@ -8,7 +8,7 @@ use native.Mathlib.Omega.{arith}
 use native.Mathlib.Nat.{mul-add, mul-zero, le_of_eq}
 use native.Mathlib.Numerals.{add-one}
 use lib.Dec.{ltb}
-use lib.IntN.{ℤ, pos, ◌+ℤ◌, +ℤ_assoc, +ℤ_comm}
+use lib.IntN.{ℤ, pos, ◌+ℤ◌, +ℤ_assoc, +ℤ_comm, +ℤ_idl}
 use lib.ListN.{length, get_or, take, drop, set, length-append, get_or-append}
 use lib.Seq.{get_or_at, drop_at, take-suc, take-length}
 use borrow.Author.Tests.{ltb-true, ltb-false}
@@ -26,6 +26,11 @@ pub sum_eq : (f g : ℕ → ℕ) (n : ℕ) → ((i : ℕ) → i < n → f i ≡ 
 unfolding sum
 sum_eq f g zero h = refl
 sum_eq f g (suc n) h = ap₂ ◌+◌ (sum_eq f g n (λ i l. h i (omega arith))) (h n (omega arith))
+
+pub sum_ones : (n : ℕ) → sum (λ i. 1) n ≡ n
+unfolding sum
+sum_ones zero = refl
+sum_ones (suc n) = omega (arith, sum_ones n)
 
 pub sum_le : (f g : ℕ → ℕ) (n : ℕ) → ((i : ℕ) → i < n → f i ≤ g i) → sum f n ≤ sum g n
 unfolding sum
@@ -175,6 +180,16 @@ totalZ_sum (x ∷ xs) = ap (λ t. x +ℤ t) (totalZ_sum xs) ∙ sym (sumZ_cons (
 
 pub totalZ_table : (f : ℕ → ℤ) (n : ℕ) → totalZ (table f n) ≡ sumZ f n
 totalZ_table f n = totalZ_sum (table f n) ∙ rw (length_table f n) (sumZ_eq (atZ (table f n)) f n (λ i l. getD_table f n i (pos 0) l))
+
+pub totalZ_append : (xs ys : List ℤ) → totalZ (xs ++ ys) ≡ totalZ xs +ℤ totalZ ys
+unfolding totalZ
+totalZ_append [] ys = sym (+ℤ_idl (totalZ ys))
+totalZ_append (x ∷ xs) ys = ap (λ z. x +ℤ z) (totalZ_append xs ys) ∙ sym (+ℤ_assoc x (totalZ xs) (totalZ ys))
+
+pub table_same : {A : Type 0} (f g : ℕ → A) → ((i : ℕ) → f i ≡ g i) → (n : ℕ) → table f n ≡ table g n
+unfolding table
+table_same f g h zero = refl
+table_same f g h (suc n) = ap₂ (λ t x. t ++ (x ∷ [])) (table_same f g h n) (h n)
 
 -- the first n elements are the table of them
 pub table_take : {A : Type 0} (x : A) (xs : List A) (n : ℕ) → n ≤ length xs → table (λ i. get_or xs i x) n ≡ take n xs

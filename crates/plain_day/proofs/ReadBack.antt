@@ -12,6 +12,7 @@ use borrow.Author.Tests.{le-leb, eq-eqb}
 use Rattle.numbers.specs.Sums.{bit, atZ}
 use Rattle.numbers.specs.Lists.{every}
 use Rattle.numbers.proofs.Lists.{All, true≢false, both_true}
+use Rattle.numbers.proofs.Amounts.{sizes_of_pos}
 use Rattle.point_day.specs.Fields.{same_fields}
 use Rattle.point_day.specs.Limits.{USERS, CELLS, LAST_NUMBER}
 use Rattle.point_day.specs.Day.{is_measured, measurement_right}
@@ -79,10 +80,6 @@ measurement_back : (m : Option Measurement) (x y : ℤ) → measurement_of (bit 
 measurement_back None x y = refl
 measurement_back (Some m) x y = refl
 
-users_back : (us : List ℕ) → map nat_abs (map pos us) ≡ us
-users_back [] = refl
-users_back (u ∷ us) = ap (λ t. u ∷ t) (users_back us)
-
 -- ---- and in range
 
 stage_up : (s : Stage) → up_to 2 (pos (stage_number s)) ≡ true
@@ -141,7 +138,7 @@ module _ (d : PointDay) (s : Stores d) where
         allotted = flag_back d.allotted;
         measurement = measurement_back d.measurement (atZ xs EMISSION_AT) (atZ xs DOWNSTREAM_AT);
         count = refl;
-        users = ap (map nat_abs) (first u c l b r eu z.consumption z.losses z.balance z.revision) ∙ users_back d.users;
+        users = ap (map nat_abs) (first u c l b r eu z.consumption z.losses z.balance z.revision) ∙ sizes_of_pos d.users;
         consumption = second u c l b r eu z.consumption z.losses z.balance z.revision;
         losses = third u c l b r eu z.consumption z.losses z.balance z.revision;
         balance = fourth u c l b r eu z.consumption z.losses z.balance z.revision;

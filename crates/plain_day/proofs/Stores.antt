@@ -4,12 +4,11 @@ use mathlib.Core.Bool.{Bool}
 use mathlib.Core.List.{List, [], ◌∷◌, ◌++◌, map, append_assoc, append-nil}
 use Prim.Native.Nat.{ℕ, zero, suc, ◌+◌, ◌-◌, ◌≤◌, ◌<◌}
 use native.Mathlib.Omega.{arith}
-use native.Mathlib.Nat.{zero-add, suc-add}
 use lib.IntN.{ℤ, pos}
 use lib.ListN.{length, take, drop, set, replicate, length-append, length-map, drop_of_length-le, replicate-append-replicate, get_or-append}
 use lib.Seq.{take-append-le, drop-append-le, take_at, drop-append-add, get_or-append-add, set-append_left}
 use Rattle.numbers.specs.Sums.{bit, atZ}
-use Rattle.numbers.proofs.Lists.{map_append}
+use Rattle.numbers.proofs.Lists.{map_append, set_append_right}
 use Rattle.point_day.specs.Limits.{USERS, CELLS}
 use Rattle.point_day.specs.Fields.{set_stage, set_allotted, set_measurement, set_count, set_users, set_consumption, set_losses, set_balance, set_revision}
 use Rattle.point_day.specs.Day.{is_measured}
@@ -22,12 +21,8 @@ use Rattle.point_day.specs.Day.{metered}
 
 -- ---- a store into a part of a list
 
-pub set_right : {A : Type 0} (xs ys : List A) (i : ℕ) (a : A) → set (xs ++ ys) (length xs + i) a ≡ xs ++ set ys i a
-set_right [] ys i a = ap (λ k. set ys k a) (zero-add i)
-set_right (x ∷ xs) ys i a = ap (λ k. set (x ∷ (xs ++ ys)) k a) (suc-add (length xs) i) ∙ ap (λ t. x ∷ t) (set_right xs ys i a)
-
 set_at_part : {A : Type 0} (n : ℕ) (xs ys : List A) (i : ℕ) (a : A) → length xs ≡ n → set (xs ++ ys) (n + i) a ≡ xs ++ set ys i a
-set_at_part n xs ys i a e = ap (λ k. set (xs ++ ys) (k + i) a) (sym e) ∙ set_right xs ys i a
+set_at_part n xs ys i a e = ap (λ k. set (xs ++ ys) (k + i) a) (sym e) ∙ set_append_right xs ys i a
 
 at_part : (n : ℕ) (xs ys : List ℤ) (i : ℕ) → length xs ≡ n → atZ (xs ++ ys) (n + i) ≡ atZ ys i
 at_part n xs ys i e = ap (λ k. atZ (xs ++ ys) (k + i)) (sym e) ∙ get_or-append-add xs ys i (pos 0)
@@ -181,7 +176,7 @@ module _ (d : PointDay) (z : Sized d) (xs : List ℤ) where
   unfolding stored
   user_stored i n h =
       set_f front d.consumption d.losses d.balance d.revision (USERS_AT + i) (pos n) (omega (arith, front_long))
-      ∙ ap (λ t. t ++ d.consumption ++ d.losses ++ d.balance ++ d.revision) (set_right head us i (pos n) ∙ ap (λ t. head ++ t) (sym (map_set pos d.users i n)))
+      ∙ ap (λ t. t ++ d.consumption ++ d.losses ++ d.balance ++ d.revision) (set_append_right head us i (pos n) ∙ ap (λ t. head ++ t) (sym (map_set pos d.users i n)))
 
   -- user numbers from the first slot on
   pub users_stored : (ns : List ℕ) → length ns ≤ USERS → put USERS_AT (map pos ns) (stored d xs) ≡ stored (set_users (ns ++ drop (length ns) d.users) d) xs

@@ -15,6 +15,7 @@ use Rattle.point_day.specs.Limits.{USERS, CELLS}
 use Rattle.point_day.specs.Day.{User, Day, empty_user, is_zero}
 use Rattle.point_day.specs.Struct.{kinds_of, user_at, read, padded, laid, none_past, none_below}
 use Rattle.numbers.proofs.Lists.{All, all_map, both_true, every_append}
+use Rattle.numbers.proofs.Amounts.{sizes_of_pos}
 use Rattle.point_day.proofs.Taken.{Past}
 
 -- a user with a number for each kind
@@ -52,10 +53,6 @@ unfolding every
 every_replicate p x e zero = refl
 every_replicate p x e (suc n) = both_true {p = p x} e (every_replicate p x e n)
 
-sizes : (xs : List ℕ) → map nat_abs (map pos xs) ≡ xs
-sizes [] = refl
-sizes (x ∷ xs) = ap (λ t. x ∷ t) (sizes xs)
-
 none_negative : (xs : List ℕ) → every (λ z. not (is_negative z)) (map pos xs) ≡ true
 unfolding every
 none_negative [] = refl
@@ -82,13 +79,13 @@ module _ (d : Day) (full : All Full d.users) where
   }
     where
       c : map nat_abs (kinds_of s (padded (CELLS) (pos 0) (flat (map (λ u. map pos u.consumption) d.users)))) ≡ (get_or d.users s nobody).consumption
-      c = ap (map nat_abs) (kinds_of_flat (λ u. map pos u.consumption) d.users _ s (all_map Full _ (λ u h. length-map u.consumption pos ∙ h.consumption) d.users full) l) ∙ sizes _
+      c = ap (map nat_abs) (kinds_of_flat (λ u. map pos u.consumption) d.users _ s (all_map Full _ (λ u h. length-map u.consumption pos ∙ h.consumption) d.users full) l) ∙ sizes_of_pos _
 
       b : kinds_of s (padded (CELLS) (pos 0) (flat (map (λ (u : User). u.balance) d.users))) ≡ (get_or d.users s nobody).balance
       b = kinds_of_flat (λ (u : User). u.balance) d.users _ s (all_map Full _ (λ u h. h.balance) d.users full) l
 
       o : map nat_abs (kinds_of s (padded (CELLS) (pos 0) (flat (map (λ u. map pos u.losses) d.users)))) ≡ (get_or d.users s nobody).losses
-      o = ap (map nat_abs) (kinds_of_flat (λ u. map pos u.losses) d.users _ s (all_map Full _ (λ u h. length-map u.losses pos ∙ h.losses) d.users full) l) ∙ sizes _
+      o = ap (map nat_abs) (kinds_of_flat (λ u. map pos u.losses) d.users _ s (all_map Full _ (λ u h. length-map u.losses pos ∙ h.losses) d.users full) l) ∙ sizes_of_pos _
 
   users_back : table (user_at (laid d)) (length d.users) ≡ d.users
   users_back =

@@ -10,7 +10,7 @@ use lib.ListN.{length, take, drop, replicate, length-map, length-drop, take-appe
 use lib.Seq.{take-add, length-take-le}
 use borrow.Author.Tests.{eqb-true, not-true}
 use Rattle.numbers.specs.Sums.{table}
-use Rattle.numbers.proofs.Sums.{length_table, table_take}
+use Rattle.numbers.proofs.Sums.{length_table, table_take, table_same}
 use Rattle.numbers.specs.Amounts.{is_negative}
 use Rattle.numbers.specs.Lists.{every, flat}
 use Rattle.point_day.specs.Fields.{same_fields}
@@ -81,11 +81,6 @@ pub signs_back : (zs : List ℤ) → every (λ z. not (is_negative z)) zs ≡ tr
 unfolding every
 signs_back [] e = refl
 signs_back (z ∷ zs) e = ap₂ ◌∷◌ (sym (pos_size z (not-true (is_negative z) (both_fst (not (is_negative z)) _ e)))) (signs_back zs (both_snd (not (is_negative z)) _ e))
-
-table_same : {A : Type 0} (f g : ℕ → A) → ((i : ℕ) → f i ≡ g i) → (n : ℕ) → table f n ≡ table g n
-unfolding table
-table_same f g h zero = refl
-table_same f g h (suc n) = ap₂ (λ t x. t ++ (x ∷ [])) (table_same f g h n) (h n)
 
 -- ---- the point-day
 

@@ -6,7 +6,7 @@ use native.Mathlib.Omega.{arith}
 use lib.ListN.{length, get_or, drop, set, replicate, length-append, length-set, length-replicate, replicate-append-replicate}
 use lib.Seq.{set_at, set-append_left, get_or-take, get_or-drop}
 use Rattle.numbers.specs.Lists.{flat}
-use Rattle.numbers.proofs.Lists.{All}
+use Rattle.numbers.proofs.Lists.{All, set_append_right}
 use Rattle.point_day.specs.Limits.{CELLS}
 use Rattle.point_day.specs.Day.{User}
 use Rattle.point_day.specs.Struct.{padded}
@@ -30,12 +30,6 @@ unfolding padded
 padded_set x n xs i v l = rw (length-set xs i v) (sym (set-append_left xs (replicate (n - length xs) x) i v l))
 
 -- ---- one cell of many
-
-set_append_right : {A : Type 0} (xs ys : List A) (i : ℕ) (a : A) → set (xs ++ ys) (length xs + i) a ≡ xs ++ set ys i a
-set_append_right [] ys i a = ap (λ k. set ys k a) (omega arith)
-set_append_right (x ∷ xs) ys i a =
-    let e : suc (length xs) + i ≡ suc (length xs + i) = omega arith in
-    ap (λ k. set (x ∷ (xs ++ ys)) k a) e ∙ ap (λ t. x ∷ t) (set_append_right xs ys i a)
 
 pub map_set : {A B : Type 0} (f : A → B) (xs : List A) (i : ℕ) (a : A) → map f (set xs i a) ≡ set (map f xs) i (f a)
 map_set f [] i a = refl

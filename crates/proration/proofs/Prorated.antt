@@ -9,19 +9,14 @@ use native.Mathlib.Omega.{arith}
 use lib.Dec.{eqb, ltb}
 use lib.ListN.{length, take, drop, get_or-eq_default, replicate, length-replicate, get_or-replicate}
 use borrow.Author.Tests.{eqb-false, eq-eqb, ne_eqb}
-use Rattle.numbers.specs.Sums.{pick, sum, at, total, Bounded}
+use Rattle.numbers.specs.Sums.{pick, at, total, Bounded}
 use Rattle.proration.specs.Proration.{rem, floor, rank, left, share, split, counted, prorate}
 use Rattle.numbers.specs.Lists.{Distinct}
 use Rattle.proration.specs.Laws.{Near}
-use Rattle.numbers.proofs.Sums.{lt_or_ge, bit_one, sum_one, sum_eq, length_table, at_table, total_sum, total_table}
+use Rattle.numbers.proofs.Sums.{lt_or_ge, bit_one, sum_one, sum_eq, length_table, at_table, total_sum, total_table, sum_ones}
 use Rattle.proration.proofs.Shares.{sums, near, floors_le}
 
 -- the weights that count
-
-sum_ones : (n : ℕ) → sum (λ i. 1) n ≡ n
-unfolding sum
-sum_ones zero = refl
-sum_ones (suc n) = omega (arith, sum_ones n)
 
 total_ones : (n : ℕ) → total (replicate n 1) ≡ n
 total_ones n =

@@ -4,7 +4,7 @@ use mathlib.Core.Bool.{Bool, true, false, not}
 use mathlib.Core.List.{List, [], ◌∷◌, ◌++◌, map, zip_with}
 use Prim.Native.Nat.{ℕ, zero, suc, ◌+◌, ◌-◌, ◌*◌, ◌≤◌, ◌<◌}
 use native.Mathlib.Omega.{arith}
-use lib.IntN.{ℤ, pos, nat_abs, ◌+ℤ◌, ◌-ℤ◌, +ℤ_assoc, +ℤ_idl, +ℤ_idr, +ℤ_comm, +ℤ-neg_ℤ_cancel}
+use lib.IntN.{ℤ, pos, nat_abs, ◌+ℤ◌, ◌-ℤ◌, +ℤ_idr, +ℤ_comm, +ℤ-neg_ℤ_cancel}
 use lib.ListN.{length, get_or, take, drop, length-map, get_or-map}
 use lib.Seq.{take-add, ext_get_or}
 use borrow.Author.Tests.{not-true}
@@ -13,7 +13,7 @@ use Rattle.numbers.specs.Amounts.{is_negative}
 use Rattle.numbers.specs.Lists.{flat}
 use Rattle.numbers.proofs.Amounts.{NonNeg, sum_nonneg, exchange}
 use Rattle.numbers.proofs.Lists.{All, all_map, all_every, all_zip, map_zip}
-use Rattle.numbers.proofs.Sums.{length_table, getD_table}
+use Rattle.numbers.proofs.Sums.{length_table, getD_table, table_same, totalZ_append}
 use Rattle.proration.proofs.Signs.{lengthZ}
 use Rattle.point_day.specs.Limits.{KINDS, LIMIT}
 use Rattle.point_day.specs.Day.{User, Day, offtake, all_offtake, net, net_of, is_measured, some}
@@ -40,11 +40,6 @@ use Rattle.point_day.specs.Day.{metered}
 
 -- ---- sums over slots
 
-totalZ_append : (xs ys : List ℤ) → totalZ (xs ++ ys) ≡ totalZ xs +ℤ totalZ ys
-unfolding totalZ
-totalZ_append [] ys = sym (+ℤ_idl (totalZ ys))
-totalZ_append (x ∷ xs) ys = ap (λ t. x +ℤ t) (totalZ_append xs ys) ∙ sym (+ℤ_assoc x (totalZ xs) (totalZ ys))
-
 -- the slots one after the other are the array's start
 slots_total : (xs : List ℤ) (n : ℕ) → totalZ (table (of_slot xs) n) ≡ totalZ (take (KINDS * n) xs)
 unfolding table totalZ
@@ -61,11 +56,6 @@ sizes_sum : (xs : List ℤ) → none_below xs ≡ true → (s : ℕ) → pos (to
 sizes_sum xs h s =
     let k = every_take (λ z. not (is_negative z)) KINDS (drop (KINDS * s) xs) (every_drop (λ z. not (is_negative z)) (KINDS * s) xs h) in
     sym (sum_nonneg (kinds_of s xs) (all_map _ NonNeg (λ z e. not-true (is_negative z) e) (kinds_of s xs) (all_every (λ z. not (is_negative z)) (kinds_of s xs) k)))
-
-table_same : {A : Type 0} (f g : ℕ → A) → ((i : ℕ) → f i ≡ g i) → (n : ℕ) → table f n ≡ table g n
-unfolding table
-table_same f g h zero = refl
-table_same f g h (suc n) = ap₂ (λ t x. t ++ (x ∷ [])) (table_same f g h n) (h n)
 
 -- ---- figures of users
 
