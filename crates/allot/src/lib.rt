@@ -84,9 +84,9 @@ fn put_balances(day: PointDay, balance: [i64; CELLS]) -> PointDay
 }
 
 // The tests of an allot, that of the point-day first; `cells`, zeros before, are then the balances.
-fn tests(day: PointDay, cells: &mut [i64]) -> Result<(), Refusal>
+fn tests(day: &PointDay, cells: &mut [i64]) -> Result<(), Refusal>
     requires { cells.old ≡ padded CELLS (pos 0) [] }
-    ensures { Tested cells.new day (status_of result) }
+    ensures { Tested cells.new day.now (status_of result) }
 {
     let state = taken::test_day(day)?;
     allot_test(&state, &day.consumption, &day.losses, &day.revision, cells)
@@ -97,7 +97,7 @@ pub fn allot(day: PointDay) -> Outcome
     ensures { outcome (answer_of result.answer) result.day ≡ called allot day }
 {
     let mut cells = numbers::repeat::<i64, CELLS>(0);
-    match tests(day, &mut cells) {
+    match tests(&day, &mut cells) {
         Err(refusal) => point_day::refuse(refusal, day),
         Ok(()) => point_day::accept(Accepted::Done, put_balances(day, cells)),
     }

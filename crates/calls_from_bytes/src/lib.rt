@@ -78,7 +78,7 @@ fn print_taken<W: Write>(out: &mut W, day: &PointDay) -> io::Result<()>
 }
 
 fn print_day<W: Write>(out: &mut W, day: &PointDay) -> io::Result<()> {
-    match taken::test_day(*day) {
+    match taken::test_day(day) {
         Ok(_) => print_taken(out, day),
         Err(refusal) => {
             output::refusal(out, refusal)?;

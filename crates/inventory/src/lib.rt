@@ -51,6 +51,6 @@ pub fn inventory(day: PointDay, out: &mut [i64]) -> Result<usize, Refusal>
     ensures result_value { answer_of result ≡ inventory day out.old }
     ensures afterwards { Afterwards (inventory day out.old) (read day) out.old out.new }
 {
-    let state = taken::test_day(day)?;
+    let state = taken::test_day(&day)?;
     list_rows(&state, &day.consumption, &day.losses, &day.balance, out)
 }

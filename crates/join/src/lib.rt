@@ -51,8 +51,8 @@ pub fn join_test(state: &State, user: u16) -> Result<(), Refusal>
 }
 
 // The tests of a join, that of the point-day first.
-fn tests(day: PointDay, user: u16) -> Result<(), Refusal>
-    ensures { Tested user day (status_of result) }
+fn tests(day: &PointDay, user: u16) -> Result<(), Refusal>
+    ensures { Tested user day.now (status_of result) }
 {
     join_test(&taken::test_day(day)?, user)
 }
@@ -61,7 +61,7 @@ fn tests(day: PointDay, user: u16) -> Result<(), Refusal>
 pub fn join(day: PointDay, user: u16) -> Outcome
     ensures { outcome (answer_of result.answer) result.day ≡ called (join user) day }
 {
-    match tests(day, user) {
+    match tests(&day, user) {
         Err(refusal) => point_day::refuse(refusal, day),
         Ok(()) => point_day::accept(Accepted::Done, append(day, user)),
     }

@@ -62,8 +62,8 @@ pub fn line_test(state: &State, entry: LineEntry) -> Result<LineEffect, Refusal>
 }
 
 // The tests of a line, that of the point-day first.
-fn tests(day: PointDay, entry: LineEntry) -> Result<LineEffect, Refusal>
-    ensures { Tested entry.user entry.kind entry.consumption entry.coefficient day result }
+fn tests(day: &PointDay, entry: LineEntry) -> Result<LineEffect, Refusal>
+    ensures { Tested entry.user entry.kind entry.consumption entry.coefficient day.now result }
 {
     line_test(&taken::test_day(day)?, entry)
 }
@@ -88,7 +88,7 @@ fn line_at(day: PointDay, place: usize, amount: u64, added: u64) -> PointDay
 pub fn line(day: PointDay, entry: LineEntry) -> Outcome
     ensures { outcome (answer_of result.answer) result.day ≡ called (line entry.user entry.kind entry.consumption entry.coefficient) day }
 {
-    match tests(day, entry) {
+    match tests(&day, entry) {
         Err(refusal) => point_day::refuse(refusal, day),
         Ok(effect) => {
             let next = line_at(day, effect.place, entry.consumption, effect.added);

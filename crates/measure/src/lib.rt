@@ -50,8 +50,8 @@ fn remeasure(day: PointDay, emission: u64, downstream: u64) -> PointDay
 }
 
 // The tests of a measure, that of the point-day first.
-fn tests(day: PointDay, emission: u64, downstream: u64) -> Result<(), Refusal>
-    ensures { Tested emission downstream day (status_of result) }
+fn tests(day: &PointDay, emission: u64, downstream: u64) -> Result<(), Refusal>
+    ensures { Tested emission downstream day.now (status_of result) }
 {
     measure_test(&taken::test_day(day)?, emission, downstream)
 }
@@ -60,7 +60,7 @@ fn tests(day: PointDay, emission: u64, downstream: u64) -> Result<(), Refusal>
 pub fn measure(day: PointDay, emission: u64, downstream: u64) -> Outcome
     ensures { outcome (answer_of result.answer) result.day ≡ called (measure emission downstream) day }
 {
-    match tests(day, emission, downstream) {
+    match tests(&day, emission, downstream) {
         Err(refusal) => point_day::refuse(refusal, day),
         Ok(()) => point_day::accept(Accepted::Done, remeasure(day, emission, downstream)),
     }

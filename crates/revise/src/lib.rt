@@ -64,9 +64,9 @@ pub fn revise_test<'a>(
 }
 
 // The tests of a revise, that of the point-day first; `column` has the new revisions afterwards, if R is assigned.
-fn tests(day: PointDay, tolerance: u64, column: &mut [i64]) -> Result<Revision, Refusal>
+fn tests(day: &PointDay, tolerance: u64, column: &mut [i64]) -> Result<Revision, Refusal>
     requires { (length column.old ≡ USERS) × (tolerance ≤ SAFE) }
-    ensures { Tested tolerance day result column.new }
+    ensures { Tested tolerance day.now result column.new }
 {
     let state = taken::test_day(day)?;
     column.copy_from_slice(&state.wholes);
@@ -89,7 +89,7 @@ pub fn revise_by(day: PointDay, tolerance: u64) -> Outcome
     ensures { outcome (answer_of result.answer) result.day ≡ called (revise tolerance) day }
 {
     let mut column = numbers::repeat::<i64, USERS>(0);
-    match tests(day, tolerance, &mut column) {
+    match tests(&day, tolerance, &mut column) {
         Err(refusal) => point_day::refuse(refusal, day),
         Ok(Revision::Within(amount)) => {
             point_day::accept(Accepted::WithinTolerance(amount), day)

@@ -63,7 +63,7 @@ pub fn stand_in_test<'a>(
 
 // The tests of a stand-in, that of the point-day first.
 fn tests<'a>(
-    day: PointDay,
+    day: &'a PointDay,
     counts: &'a [usize],
     users: &'a [u16],
     amounts: &'a [i64],
@@ -71,7 +71,7 @@ fn tests<'a>(
     shares: &mut [i64],
 ) -> Result<usize, Refusal>
     requires { shares.old ≡ replicate USERS (pos 0) }
-    ensures { Tested tolerance counts.now users.now amounts.now day result shares.new }
+    ensures { Tested tolerance counts.now users.now amounts.now day.now result shares.new }
 {
     let state = taken::test_day(day)?;
     stand_in_test(&state, counts, users, amounts, tolerance, shares)
@@ -89,7 +89,7 @@ pub fn stand_in_lists<'a>(
     ensures { outcome (answer_of result.answer) result.day ≡ called (stand_in tolerance (rows_of (rows_in counts.now users.now amounts.now))) day }
 {
     let mut shares = numbers::repeat::<i64, USERS>(0);
-    match tests(day, counts, users, amounts, tolerance, &mut shares) {
+    match tests(&day, counts, users, amounts, tolerance, &mut shares) {
         Err(refusal) => point_day::refuse(refusal, day),
         Ok(row) => {
             let next = opening::opened(day, rows::row_users(counts, users, row), shares);

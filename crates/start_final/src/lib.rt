@@ -66,8 +66,8 @@ fn restart(day: PointDay) -> PointDay
 }
 
 // The tests of a start-final, that of the point-day first.
-fn tests(day: PointDay) -> Result<(), Refusal>
-    ensures { Tested day (status_of result) }
+fn tests(day: &PointDay) -> Result<(), Refusal>
+    ensures { Tested day.now (status_of result) }
 {
     start_final_test(&taken::test_day(day)?)
 }
@@ -76,7 +76,7 @@ fn tests(day: PointDay) -> Result<(), Refusal>
 pub fn start_final(day: PointDay) -> Outcome
     ensures { outcome (answer_of result.answer) result.day ≡ called start_final day }
 {
-    match tests(day) {
+    match tests(&day) {
         Err(refusal) => point_day::refuse(refusal, day),
         Ok(()) => point_day::accept(Accepted::Done, restart(day)),
     }

@@ -282,9 +282,9 @@ pub fn test_state(
     })
 }
 
-// The test of a point-day by value.
-pub fn test_day(day: PointDay) -> Result<State, Refusal>
-    ensures { StateOf day result }
+// The test of a point-day.
+pub fn test_day(day: &PointDay) -> Result<State, Refusal>
+    ensures { StateOf day.now result }
 {
     test_state(
         day.stage,
