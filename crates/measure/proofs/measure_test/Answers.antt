@@ -1,7 +1,6 @@
 -- `measure::measure_test` meets its contract, outcome by outcome, on any point-day of which this is the test. Assumes nothing.
 use mathlib.Core.Path.{◌≡◌, refl, sym, ◌∙◌}
 use mathlib.Core.Bool.{false, not}
-use borrow.Author.Tests.{not-true, not-false}
 use Rattle.numbers.specs.Lists.{both}
 use Rattle.point_day.specs.Day.{provisional}
 use Rattle.measure.proofs.Measures.{measure_1, measure_2, measure_done, fails, passes}
@@ -15,11 +14,11 @@ pub returns-then-not-emission_right : goal.returns-then-not-emission_right
 returns-then-not-emission_right c =
     (λ d k.
     let o : both d.allotted (not (provisional d.stage)) ≡ false = rw (k.allotted, k.stage) (sym c.measured_for_good.ensures ∙ c.if-measured_for_good.false) in
-    fails _ _ d 1 (measure_2 _ _ d k.sized k.is_taken o (sym c.emission_right.ensures ∙ not-true _ c.if-not-emission_right.true-raw)))
+    fails _ _ d 1 (measure_2 _ _ d k.sized k.is_taken o (sym c.if-not-emission_right.ensures)))
 
 pub returns : goal.returns
 returns c =
     (λ d k.
     let o : both d.allotted (not (provisional d.stage)) ≡ false = rw (k.allotted, k.stage) (sym c.measured_for_good.ensures ∙ c.if-measured_for_good.false) in
-    let r = sym c.emission_right.ensures ∙ not-false _ c.if-not-emission_right.false-raw in
+    let r = sym c.if-not-emission_right.ensures in
     passes _ _ d record { is = measure_done _ _ d k.sized k.is_taken o r refl; taken = k.is_taken; right = r })

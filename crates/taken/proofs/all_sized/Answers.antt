@@ -1,6 +1,6 @@
 -- `taken::all_sized` decides: each user so far is in range. Assumes nothing.
+use mathlib.Core.Path.{refl}
 use native.Mathlib.Omega.{arith}
-use borrow.Author.Tests.{not-false}
 use Rattle.numbers.proofs.Lists.{passed, true≢false}
 use Rattle.state.specs.Places.{SizedSlot}
 use Rattle.taken.proofs.all_sized.Goals as goal
@@ -8,7 +8,7 @@ use Rattle.taken.proofs.all_sized.Goals as goal
 pub loop-s-preserved : goal.loop-s-preserved
 loop-s-preserved c =
     let l = c.loop-s in
-    (omega arith, passed (SizedSlot _ _) 0 l.s l.invariant.1 (c.user_sized.ensures.yes (not-false _ c.if-not-user_sized.false-raw)))
+    (omega arith, passed (SizedSlot _ _) 0 l.s l.invariant.1 (c.if-not-user_sized.ensures.yes refl))
 
 pub returns : goal.returns
 returns c =
