@@ -2,7 +2,7 @@
 ghost use Rattle.std.specs.Prelude.{◌≡◌, ◌<◌, ◌≤◌, ◌++◌, length, drop, replicate};
 ghost use Rattle.proration.specs.Proration.{PARTIES, LARGEST_AMOUNT, split, prorate};
 
-use super::leftover::{self, FEW};
+use super::leftover::{self, FEW, MANY};
 use proration::{PARTIES, Parties, Weights};
 
 // The shares of the amount over weights whose sum is above 0; `rems` is scratch.
@@ -63,8 +63,11 @@ pub fn prorate(amount: u64, weights: Weights, keys: &[u64], shares: &mut [u64])
     requires ws_in_bounds { (length weights.each.now ≤ length keys.now) × (length weights.each.now ≤ length shares.old) }
     ensures { shares.new ≡ prorate amount weights.entry.each.now keys.now ++ drop (length weights.entry.each.now) shares.old }
 {
-    if weights.each.len() <= FEW {
+    let n = weights.each.len();
+    if n <= FEW {
         prorate_in::<FEW>(amount, weights, keys, shares);
+    } else if n <= MANY {
+        prorate_in::<MANY>(amount, weights, keys, shares);
     } else {
         prorate_in::<PARTIES>(amount, weights, keys, shares);
     }

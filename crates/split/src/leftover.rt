@@ -10,6 +10,9 @@ use std::cmp::Ordering;
 // Up to so many parties count as few: they need only a small scratch buffer, and ties among them are ranked by counting.
 pub const FEW: usize = 8;
 
+// Room for many parties: a point-day's users, or a month's days. (Scratch for a year's days takes longer to clear than to split a month.)
+pub const MANY: usize = 64;
+
 // One unit more to each party with fewer than `left` before it, by counting for each.
 fn serve_ranked(parties: &Parties, left: u64, shares: &mut [u64])
     requires room { length parties.now.rems.now ≤ length shares.old }

@@ -14,7 +14,7 @@ ghost use Rattle.proration.specs.Proration.{PARTIES, LARGEST_AMOUNT, LARGEST_WEI
 ghost use Rattle.split.specs.Call.{in_range, answer, after};
 
 use largest_remainder::prorate_in;
-use leftover::FEW;
+use leftover::{FEW, MANY};
 use numbers::Refusal;
 use proration::{PARTIES, Weights};
 
@@ -51,8 +51,11 @@ pub fn prorate_signed(amount: i64, weights: Weights, keys: &[u64], out: &mut [i6
     requires ws_in_bounds { (length weights.each.now ≤ length keys.now) × (length weights.each.now ≤ length out.old) }
     ensures { out.new ≡ prorateZ amount weights.entry.each.now keys.now ++ drop (length weights.entry.each.now) out.old }
 {
-    if weights.each.len() <= FEW {
+    let n = weights.each.len();
+    if n <= FEW {
         signed_in::<FEW>(amount, weights, keys, out);
+    } else if n <= MANY {
+        signed_in::<MANY>(amount, weights, keys, out);
     } else {
         signed_in::<PARTIES>(amount, weights, keys, out);
     }

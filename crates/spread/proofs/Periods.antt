@@ -5,7 +5,7 @@ use mathlib.Core.List.{List, [], ◌∷◌, ◌++◌, map}
 use Prim.Native.Nat.{ℕ, zero, suc, ◌≤◌, ◌<◌}
 use native.Mathlib.Omega.{arith}
 use lib.IntN.{ℤ, pos, nat_abs}
-use lib.ListN.{length, take, drop, replicate}
+use lib.ListN.{length, drop}
 use mir.Syntax.{w64}
 use mir.Val.{SFits, to_z}
 use mir.Facts.{to_z_pos}
@@ -15,7 +15,6 @@ use Rattle.numbers.specs.Amounts.{Within}
 use Rattle.numbers.proofs.Sums.{length_table, getD_table}
 use Rattle.numbers.proofs.Amounts.{within_test, widen}
 use Rattle.proration.specs.Proration.{PARTIES, LARGEST_WEIGHT, LARGEST_AMOUNT, prorateZ}
-use Rattle.proration.proofs.Prorated.{take_long}
 use Rattle.point_day.specs.Limits.{AMOUNT}
 use Rattle.point_day.specs.Day.{no_more}
 use Rattle.columns.specs.Summable.{SUMMABLE}
@@ -50,10 +49,6 @@ module _ (reading : ℕ) (ws : List ℤ) (right : in_range reading ws ≡ true) 
 
   reading_is : to_z w64 reading ≡ pos reading
   reading_is = to_z_pos w64 {n = reading} (omega (arith, facts.reading))
-
-  -- the part of a scratch array that is lent has a number for each day
-  pub scratch_long : {xs : List ℕ} → xs ≡ replicate PARTIES 0 → length ws ≡ length (take (length ws) xs)
-  scratch_long e = take_long PARTIES (length ws) 0 e facts.few
 
   module _ {sizes : List ℕ} (are : sizes ≡ map nat_abs ws) where
     long_sizes : length sizes ≡ length ws
