@@ -16,7 +16,8 @@ ghost use Rattle.taken.specs.Tested.{Finds, Some};
 ghost use Rattle.allot.specs.Allotted.{with_balances, Tested, Has, Allottable};
 
 use numbers::Refusal;
-use point_day::{Accepted, CELLS, Outcome, PointDay};
+use point_day::{Accepted, CELLS, Outcome, PointDay, USERS};
+use state::amounts::Amounts;
 use taken::State;
 use weights::Offtakes;
 
@@ -24,10 +25,10 @@ use weights::Offtakes;
 // amount is then too large.
 fn cells_test<'a>(
     state: &State,
-    consumption: &'a [i64],
-    losses: &'a [i64],
-    revision: &'a [i64],
-    cells: &mut [i64],
+    consumption: &'a [i64; CELLS],
+    losses: &'a [i64; CELLS],
+    revision: &'a [i64; USERS],
+    cells: &mut [i64; CELLS],
 ) -> Result<(), Refusal>
     requires { Some (Allottable state.now consumption.now losses.now revision.now) × (cells.old ≡ padded CELLS (pos 0) []) }
     ensures { (d : PointDay) → Allottable state.now consumption.now losses.now revision.now d → Tested cells.new d (status_of result) }
@@ -41,8 +42,15 @@ fn cells_test<'a>(
     };
     let users = &state.users[..n];
     balance::balance_cells(day_balance, &offtakes, users, &mut shares, cells);
-    state::whole_amounts(consumption, losses, cells, revision, n, &mut shares);
-    if taken::wholes_too_large(&shares[..n]) {
+    let amounts = Amounts {
+        consumption,
+        losses,
+        balance: cells,
+        revision,
+    };
+    let wholes = &mut shares[..n];
+    amounts.whole_amounts(wholes);
+    if taken::wholes_too_large(wholes) {
         return Err(Refusal::AmountTooLarge);
     }
     Ok(())
@@ -52,10 +60,10 @@ fn cells_test<'a>(
 // the balances.
 pub fn allot_test<'a>(
     state: &State,
-    consumption: &'a [i64],
-    losses: &'a [i64],
-    revision: &'a [i64],
-    cells: &mut [i64],
+    consumption: &'a [i64; CELLS],
+    losses: &'a [i64; CELLS],
+    revision: &'a [i64; USERS],
+    cells: &mut [i64; CELLS],
 ) -> Result<(), Refusal>
     requires { Some (Has state.now consumption.now losses.now revision.now) × (cells.old ≡ padded CELLS (pos 0) []) }
     ensures { Finds state.now (λ d. d.consumption ≡ consumption.now → d.losses ≡ losses.now → d.revision ≡ revision.now → Tested cells.new d (status_of result)) }
@@ -84,7 +92,7 @@ fn put_balances(day: PointDay, balance: [i64; CELLS]) -> PointDay
 }
 
 // The tests of an allot, that of the point-day first; `cells`, zeros before, are then the balances.
-fn tests(day: &PointDay, cells: &mut [i64]) -> Result<(), Refusal>
+fn tests(day: &PointDay, cells: &mut [i64; CELLS]) -> Result<(), Refusal>
     requires { cells.old ≡ padded CELLS (pos 0) [] }
     ensures { Tested cells.new day.now (status_of result) }
 {

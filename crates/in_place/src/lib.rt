@@ -16,7 +16,7 @@ ghost use Rattle.in_place.specs.Listing.{plain_inventory};
 
 use line::cells::LineEntry;
 use numbers::Refusal;
-use plain_day::{BALANCE_AT, CONSUMPTION_AT, LENGTH, LOSSES_AT, REVISION_AT, writes};
+use plain_day::{LENGTH, REVISION_AT, from_numbers, writes};
 use point_day::{CELLS, TOLERANCE, USERS};
 use revise::Revision;
 use stand_in::rows;
@@ -67,12 +67,13 @@ pub fn allot(day: &mut [i64]) -> Result<(), Refusal>
     ensures { plain (status_of result) [] day.new ≡ plain_call (called allot) [] day.old }
 {
     let state = plain_day::test_numbers(day)?;
+    let amounts = from_numbers::amounts_in(day);
     let mut cells = numbers::repeat::<i64, CELLS>(0);
     allot::allot_test(
         &state,
-        &day[CONSUMPTION_AT..LOSSES_AT],
-        &day[LOSSES_AT..BALANCE_AT],
-        &day[REVISION_AT..LENGTH],
+        amounts.consumption,
+        amounts.losses,
+        amounts.revision,
         &mut cells,
     )?;
     writes::store_balances(day, &cells);
@@ -124,11 +125,12 @@ pub fn inventory<'a>(day: &'a [i64], out: &mut [i64]) -> Result<usize, Refusal>
     ensures afterwards { Afterwards (plain_inventory day.now out.old) (read (day_in day.now)) out.old out.new }
 {
     let state = plain_day::test_numbers(day)?;
+    let amounts = from_numbers::amounts_in(day);
     inventory::list_rows(
         &state,
-        &day[CONSUMPTION_AT..LOSSES_AT],
-        &day[LOSSES_AT..BALANCE_AT],
-        &day[BALANCE_AT..REVISION_AT],
+        amounts.consumption,
+        amounts.losses,
+        amounts.balance,
         out,
     )
 }

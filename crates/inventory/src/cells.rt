@@ -5,17 +5,15 @@ ghost use Rattle.inventory.specs.Row.{ROW};
 ghost use Rattle.inventory.specs.Cells.{cells, row_count};
 
 use super::row::{self, UserKind};
-use point_day::KINDS;
+use point_day::{CELLS, KINDS};
 
-// The amounts of a point-day's cells. (Lists side by side, as a point-day has them.)
+// The amounts of a point-day's cells: arrays side by side, as a point-day has them. (Not `state::amounts::Amounts`, which would ask callers
+// for the revisions too.)
 #[derive(Clone, Copy)]
 pub struct Amounts<'a> {
-    pub consumption: &'a [i64],
-    pub losses: &'a [i64],
-    pub balance: &'a [i64],
-    pub ghost consumption_len: { length consumption.now ≡ CELLS },
-    pub ghost losses_len: { length losses.now ≡ CELLS },
-    pub ghost balance_len: { length balance.now ≡ CELLS },
+    pub consumption: &'a [i64; CELLS],
+    pub losses: &'a [i64; CELLS],
+    pub balance: &'a [i64; CELLS],
 }
 
 impl<'a> Amounts<'a> {

@@ -4,8 +4,8 @@
 pub mod cells;
 pub mod row;
 
-ghost use Rattle.std.specs.Prelude.{◌≡◌, ◌≤◌, length};
-ghost use Rattle.point_day.specs.Limits.{USERS, CELLS};
+ghost use Rattle.std.specs.Prelude.{◌≡◌, ◌≤◌};
+ghost use Rattle.point_day.specs.Limits.{USERS};
 ghost use Rattle.point_day.specs.Struct.{read};
 ghost use Rattle.taken.specs.Tested.{Finds};
 ghost use Rattle.inventory.specs.Inventory.{inventory, answer_of, Afterwards};
@@ -13,19 +13,19 @@ ghost use Rattle.inventory.specs.Listed.{Ends};
 
 use cells::Amounts;
 use numbers::Refusal;
-use point_day::{KINDS, PointDay};
+use point_day::{CELLS, KINDS, PointDay};
 use row::ROW;
 use taken::State;
 
 // The inventory of a taken point-day with these cells, of which `state` is the test, into a lent buffer: the count of its rows.
 pub fn list_rows<'a>(
     state: &State,
-    consumption: &'a [i64],
-    losses: &'a [i64],
-    balance: &'a [i64],
+    consumption: &'a [i64; CELLS],
+    losses: &'a [i64; CELLS],
+    balance: &'a [i64; CELLS],
     out: &mut [i64],
 ) -> Result<usize, Refusal>
-    requires { (state.now.count ≤ USERS) × (length consumption.now ≡ CELLS) × (length losses.now ≡ CELLS) × (length balance.now ≡ CELLS) }
+    requires { state.now.count ≤ USERS }
     ensures { Finds state.now (λ d. d.consumption ≡ consumption.now → d.losses ≡ losses.now → d.balance ≡ balance.now → Ends d out.old (answer_of result) out.new) }
 {
     if !state.allotted {

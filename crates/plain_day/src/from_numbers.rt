@@ -1,12 +1,16 @@
-// What stands before the amounts of a point-day in plain numbers. (A slice and its length, as in `writes`.)
+// What stands before the amounts of a point-day in plain numbers, and its amounts. (A slice and its length, as in `writes`.)
 ghost use Rattle.std.specs.Prelude.{◌≡◌, true, map, ◌<◌, pos, nat_abs, length};
 ghost use Rattle.numbers.specs.Sums.{atZ};
 ghost use Rattle.numbers.specs.Lists.{every};
 ghost use Rattle.point_day.specs.Limits.{LAST_NUMBER};
-ghost use Rattle.plain_day.specs.Layout.{LENGTH, up_to, stage_of, measurement_of, stage_in, allotted_in, measurement_in, count_in, stage_number};
+ghost use Rattle.plain_day.specs.Layout.{LENGTH, up_to, stage_of, measurement_of, stage_in, allotted_in, measurement_in, count_in, day_in, stage_number};
 
-use super::{ALLOTTED_AT, COUNT_AT, DOWNSTREAM_AT, EMISSION_AT, MEASURED_AT, STAGE_AT};
+use super::{
+    ALLOTTED_AT, BALANCE_AT, CONSUMPTION_AT, COUNT_AT, DOWNSTREAM_AT, EMISSION_AT, LENGTH,
+    LOSSES_AT, MEASURED_AT, REVISION_AT, STAGE_AT,
+};
 use point_day::{Measurement, Stage};
+use state::amounts::Amounts;
 
 fn user_number(x: i64) -> u16
     requires { up_to LAST_NUMBER x ≡ true }
@@ -87,6 +91,19 @@ pub fn count_in(xs: &[i64]) -> usize
     ensures { result ≡ count_in xs.now }
 {
     size_at(xs, COUNT_AT) as usize
+}
+
+// The amounts, where they stand.
+pub fn amounts_in<'a>(xs: &'a [i64]) -> Amounts<'a>
+    requires { length xs.now ≡ LENGTH }
+    ensures { let d = day_in xs.now in (result.consumption.now ≡ d.consumption) × (result.losses.now ≡ d.losses) × (result.balance.now ≡ d.balance) × (result.revision.now ≡ d.revision) }
+{
+    Amounts {
+        consumption: xs[CONSUMPTION_AT..LOSSES_AT].as_array().unwrap(),
+        losses: xs[LOSSES_AT..BALANCE_AT].as_array().unwrap(),
+        balance: xs[BALANCE_AT..REVISION_AT].as_array().unwrap(),
+        revision: xs[REVISION_AT..LENGTH].as_array().unwrap(),
+    }
 }
 
 // The number of a stage. (A name for the cast, which promises nothing by itself.)

@@ -96,10 +96,7 @@ fn test_read(day: &[i64], users: [u16; USERS]) -> Result<State, Refusal>
         from_numbers::measurement_in(day),
         from_numbers::count_in(day),
         users,
-        &day[CONSUMPTION_AT..LOSSES_AT],
-        &day[LOSSES_AT..BALANCE_AT],
-        &day[BALANCE_AT..REVISION_AT],
-        &day[REVISION_AT..LENGTH],
+        &from_numbers::amounts_in(day),
     )
 }
 

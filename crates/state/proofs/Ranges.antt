@@ -8,8 +8,9 @@ use lib.IntN.{ℤ, pos, nat_abs, ◌+ℤ◌}
 use lib.Signed.{non_neg}
 use mir.Syntax.{w64}
 use mir.Val.{of_z, to_z, SFits, Fits}
+use Rattle.numbers.specs.Sums.{sumZ, atZ}
 use Rattle.numbers.specs.Amounts.{Within}
-use Rattle.numbers.proofs.Amounts.{back, sfits, widen, within_add, within_pos, within_sum}
+use Rattle.numbers.proofs.Amounts.{back, sfits, widen, within_add, within_pos, within_sum, turn_fits, turn_kept}
 use Rattle.state.specs.Places.{ROOM, Small, cellZ, whole_at}
 
 module _ (x y : ℤ) (h : Within ROOM x) (k : Within ROOM y) where
@@ -32,6 +33,30 @@ module _ (cs ls bs : List ℤ) (c : Small cs) (l : Small ls) (b : Small bs) wher
 
   pub whole_within : (rs : List ℤ) → Small rs → (s : ℕ) → Within (16 * ROOM) (whole_at cs ls bs rs s)
   whole_within rs r s = widen (within_add (within_sum (3 * ROOM) (λ k. cellZ cs ls bs (5 * s + k)) (λ k. cell_within (5 * s + k)) 5) (r s)) (omega arith)
+
+  -- the whole amount of slot s, as the code holds it
+  module _ (s : ℕ) where
+    slot_within : (j : ℕ) → Within (3 * ROOM) (cellZ cs ls bs (5 * s + j))
+    slot_within j = cell_within (5 * s + j)
+
+    -- its sum over k kinds, and one kind more
+    module _ (k n : ℕ) (e : to_z w64 n ≡ sumZ (λ j. cellZ cs ls bs (5 * s + j)) k) (m : k < 5) where
+      pub kind_fits : SFits w64 (to_z w64 n +ℤ to_z w64 (of_z w64 (cellZ cs ls bs (5 * s + k))))
+      kind_fits = turn_fits (3 * ROOM) (λ j. cellZ cs ls bs (5 * s + j)) slot_within k n e (omega arith)
+
+      pub kind_kept : to_z w64 (of_z w64 (to_z w64 n +ℤ to_z w64 (of_z w64 (cellZ cs ls bs (5 * s + k))))) ≡ sumZ (λ j. cellZ cs ls bs (5 * s + j)) (k + 1)
+      kind_kept = turn_kept (3 * ROOM) (λ j. cellZ cs ls bs (5 * s + j)) slot_within k n e (omega arith)
+
+    -- its sum over all kinds, and the revision
+    module _ (rs : List ℤ) (r : Small rs) (k n : ℕ) (e : to_z w64 n ≡ sumZ (λ j. cellZ cs ls bs (5 * s + j)) k) (m : k ≡ 5) where
+      whole_is : to_z w64 n +ℤ to_z w64 (of_z w64 (atZ rs s)) ≡ whole_at cs ls bs rs s
+      whole_is = ap₂ ◌+ℤ◌ (e ∙ ap (sumZ (λ j. cellZ cs ls bs (5 * s + j))) m) (back (r s) (omega arith))
+
+      pub whole_fits : SFits w64 (to_z w64 n +ℤ to_z w64 (of_z w64 (atZ rs s)))
+      whole_fits = rw whole_is (sfits (whole_within rs r s) (omega arith))
+
+      pub whole_kept : to_z w64 (of_z w64 (to_z w64 n +ℤ to_z w64 (of_z w64 (atZ rs s)))) ≡ whole_at cs ls bs rs s
+      whole_kept = rw whole_is (back (whole_within rs r s) (omega arith))
 
 -- two sums that are not negative, added and read as an unsigned number
 module _ (a b : ℕ) (l : a < 2 ^ 62) (k : b < 2 ^ 62) {x y : ℤ} (e : x ≡ pos a) (f : y ≡ pos b) where

@@ -1,14 +1,16 @@
 // What all calls ask of a point-day: a user's slot, its sums and whole amounts, its stage and measurement.
 #![tactic(auto)]
 
-ghost use Rattle.std.specs.Prelude.{◌≡◌, true, ◌++◌, ◌≤◌, ◌<◌, pos, ◌+ℤ◌, length, drop};
-ghost use Rattle.numbers.specs.Sums.{table, atZ};
+pub mod amounts;
+
+ghost use Rattle.std.specs.Prelude.{◌≡◌, true, ◌≤◌, ◌<◌, pos, ◌+ℤ◌, length};
+ghost use Rattle.numbers.specs.Sums.{atZ};
 ghost use Rattle.numbers.specs.Amounts.{Within, Decides};
 ghost use Rattle.point_day.specs.Limits.{USERS, CELLS, LIMIT};
 ghost use Rattle.point_day.specs.Day.{is_measured, net_of, emission_right, measurement_right, provisional};
-ghost use Rattle.state.specs.Places.{SlotOf, ROOM, Small, Lengths, LowSlot, SizedSlot, cellZ, offtake_at, balance_at, whole_at, more};
+ghost use Rattle.state.specs.Places.{SlotOf, ROOM, LowSlot, SizedSlot, offtake_at, balance_at, more};
 
-use point_day::{AMOUNT, KINDS, LIMIT, Measurement, Stage, USERS};
+use point_day::{AMOUNT, CELLS, KINDS, LIMIT, Measurement, Stage, USERS};
 
 // The slot of the user, if it stands among these.
 pub fn slot_of(users: &[u16], user: u16) -> Option<usize>
@@ -25,9 +27,10 @@ pub fn slot_of(users: &[u16], user: u16) -> Option<usize>
 // The greatest amount of which all sums fit well into 64 bits, and whose bits are all ones.
 const LOW: i64 = 8589934591;
 
-// Whether a user's consumption and losses lie in 0 to LOW: their bits are gathered, and tested once.
-pub fn user_low(consumption: &[i64], losses: &[i64], slot: usize) -> bool
-    requires { (slot < USERS) × (length consumption.now ≡ CELLS) × (length losses.now ≡ CELLS) }
+// Whether a user's consumption and losses lie in 0 to LOW: their bits are gathered, and tested once. (The functions of two of a point-day's
+// four arrays are no methods of `Amounts`, which would ask their callers for all four.)
+pub fn user_low(consumption: &[i64; CELLS], losses: &[i64; CELLS], slot: usize) -> bool
+    requires { slot < USERS }
     ensures { Decides result (LowSlot consumption.now losses.now slot) }
 {
     let mut bits: i64 = 0;
@@ -39,16 +42,16 @@ pub fn user_low(consumption: &[i64], losses: &[i64], slot: usize) -> bool
 }
 
 // Consumption and losses of a cell.
-fn cell_offtake(consumption: &[i64], losses: &[i64], i: usize) -> i64
-    requires { (i < CELLS) × Within ROOM (atZ consumption.now i) × Within ROOM (atZ losses.now i) × (length consumption.now ≡ CELLS) × (length losses.now ≡ CELLS) }
+fn cell_offtake(consumption: &[i64; CELLS], losses: &[i64; CELLS], i: usize) -> i64
+    requires { (i < CELLS) × Within ROOM (atZ consumption.now i) × Within ROOM (atZ losses.now i) }
     ensures { result ≡ atZ consumption.now i +ℤ atZ losses.now i }
 {
     consumption[i] + losses[i]
 }
 
 // A user's consumption and losses.
-pub fn user_offtake(consumption: &[i64], losses: &[i64], slot: usize) -> i64
-    requires { (slot < USERS) × LowSlot consumption.now losses.now slot × (length consumption.now ≡ CELLS) × (length losses.now ≡ CELLS) }
+pub fn user_offtake(consumption: &[i64; CELLS], losses: &[i64; CELLS], slot: usize) -> i64
+    requires { (slot < USERS) × LowSlot consumption.now losses.now slot }
     ensures { result ≡ offtake_at consumption.now losses.now slot }
 {
     let mut sum: i64 = 0;
@@ -59,8 +62,8 @@ pub fn user_offtake(consumption: &[i64], losses: &[i64], slot: usize) -> i64
 }
 
 // Whether a user's balances and its revision are at most 2,000,000,000 in size.
-pub fn user_sized(balance: &[i64], revision: &[i64], slot: usize) -> bool
-    requires { (slot < USERS) × (length balance.now ≡ CELLS) × (length revision.now ≡ USERS) }
+pub fn user_sized(balance: &[i64; CELLS], revision: &[i64; USERS], slot: usize) -> bool
+    requires { slot < USERS }
     ensures { Decides result (SizedSlot balance.now revision.now slot) }
 {
     for k in 0..KINDS {
@@ -72,8 +75,8 @@ pub fn user_sized(balance: &[i64], revision: &[i64], slot: usize) -> bool
 }
 
 // A user's balances and revision.
-pub fn user_balance(balance: &[i64], revision: &[i64], slot: usize) -> i64
-    requires { (slot < USERS) × SizedSlot balance.now revision.now slot × (length balance.now ≡ CELLS) × (length revision.now ≡ USERS) }
+pub fn user_balance(balance: &[i64; CELLS], revision: &[i64; USERS], slot: usize) -> i64
+    requires { (slot < USERS) × SizedSlot balance.now revision.now slot }
     ensures { result ≡ balance_at balance.now revision.now slot }
 {
     let mut sum: i64 = 0;
@@ -89,49 +92,6 @@ pub fn add_at(cells: &mut [i64], i: usize, x: u64)
     ensures { cells.new ≡ more i x cells.old }
 {
     cells[i] += x as i64;
-}
-
-// Consumption, losses and balance of a cell.
-fn cell_sum(consumption: &[i64], losses: &[i64], balance: &[i64], i: usize) -> i64
-    requires { (i < CELLS) × Small consumption.now × Small losses.now × Small balance.now × (length consumption.now ≡ CELLS) × (length losses.now ≡ CELLS) × (length balance.now ≡ CELLS) }
-    ensures { result ≡ cellZ consumption.now losses.now balance.now i }
-{
-    consumption[i] + losses[i] + balance[i]
-}
-
-// A user's whole amount.
-fn whole_amount(
-    consumption: &[i64],
-    losses: &[i64],
-    balance: &[i64],
-    revision: &[i64],
-    slot: usize,
-) -> i64
-    requires { (slot < USERS) × Small consumption.now × Small losses.now × Small balance.now × Small revision.now × Lengths consumption.now losses.now balance.now revision.now }
-    ensures { result ≡ whole_at consumption.now losses.now balance.now revision.now slot }
-{
-    let mut sum: i64 = 0;
-    for k in 0..KINDS {
-        sum += cell_sum(consumption, losses, balance, KINDS * slot + k);
-    }
-    sum + revision[slot]
-}
-
-// The whole amounts of n users; numbers of `wholes` past them stay.
-pub fn whole_amounts(
-    consumption: &[i64],
-    losses: &[i64],
-    balance: &[i64],
-    revision: &[i64],
-    n: usize,
-    wholes: &mut [i64],
-)
-    requires { (n ≤ USERS) × (n ≤ length wholes.old) × Small consumption.now × Small losses.now × Small balance.now × Small revision.now × Lengths consumption.now losses.now balance.now revision.now }
-    ensures { wholes.new ≡ table (whole_at consumption.now losses.now balance.now revision.now) n ++ drop n wholes.old }
-{
-    for s in 0..n {
-        wholes[s] = whole_amount(consumption, losses, balance, revision, s);
-    }
 }
 
 // Whether emission and downstream emission are in range.

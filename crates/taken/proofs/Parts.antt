@@ -17,8 +17,8 @@ use Rattle.numbers.specs.Lists.{every}
 use Rattle.numbers.specs.Amounts.{Within, Between, is_negative}
 use Rattle.numbers.proofs.Places.{at_every, from_every}
 use Rattle.numbers.proofs.Sums.{lt_or_ge, length_table, getD_table, sumZ_eq}
-use Rattle.numbers.proofs.Lists.{All, true≢false, both_fst, both_snd, both_true, all_every, every_all, all_map}
-use Rattle.numbers.proofs.Amounts.{back, sfits, widen, within_add}
+use Rattle.numbers.proofs.Lists.{passed, All, true≢false, both_fst, both_snd, both_true, all_every, every_all, all_map}
+use Rattle.numbers.proofs.Amounts.{back, sfits, widen, within_add, next_turn_kept, next_turn_fits}
 use Rattle.point_day.specs.Limits.{USERS, CELLS, KINDS, LIMIT, AMOUNT}
 use Rattle.point_day.specs.Day.{User, offtake, all_offtake, whole, no_more, is_zero}
 use Rattle.point_day.specs.Struct.{Sized, kinds_of, user_at, read, none_past, none_below, unallotted, amounts_right, sum_right, taken}
@@ -62,8 +62,21 @@ module _ (ws bs rs : List ℤ) (s : ℕ) (h : Within (10 * ROOM) (atZ ws s)) (k 
     pub added_back : to_z w64 (of_z w64 (to_z w64 (of_z w64 x) +ℤ to_z w64 (of_z w64 b))) ≡ added_at ws bs rs s
     added_back = rw added_is (back added_within (omega arith))
 
-    pub added_bits : of_z w64 (to_z w64 (of_z w64 x) +ℤ to_z w64 (of_z w64 b)) ≡ of_z w64 (added_at ws bs rs s)
+    added_bits : of_z w64 (to_z w64 (of_z w64 x) +ℤ to_z w64 (of_z w64 b)) ≡ of_z w64 (added_at ws bs rs s)
     added_bits = ap (of_z w64) added_is
+
+    -- and the slots before it, once its size u is tested
+    module _ (before : (j : ℕ) → 0 ≤ j → j < s → Added ws bs rs j) {u : ℕ} (eu : u ≡ nat_abs (to_z w64 (of_z w64 (to_z w64 (of_z w64 x) +ℤ to_z w64 (of_z w64 b))))) (lu : u ≤ AMOUNT) where
+      pub added_all : (j : ℕ) → 0 ≤ j → j < s + 1 → Added ws bs rs j
+      added_all = passed (Added ws bs rs) 0 s before (k, record { size = omega (arith, rw added_back at eu, lu) })
+
+      -- their sum
+      module _ (n : ℕ) (e : to_z w64 n ≡ sumZ (added_at ws bs rs) s) (l : s < USERS) where
+        pub added_sum_fits : SFits w64 (to_z w64 n +ℤ to_z w64 (of_z w64 (to_z w64 (of_z w64 x) +ℤ to_z w64 (of_z w64 b))))
+        added_sum_fits = rw added_bits (next_turn_fits AMOUNT (added_at ws bs rs) s (λ j m. (added_all j (omega arith) m).1) n e (omega arith))
+
+        pub added_sum_kept : to_z w64 (of_z w64 (to_z w64 n +ℤ to_z w64 (of_z w64 (to_z w64 (of_z w64 x) +ℤ to_z w64 (of_z w64 b))))) ≡ sumZ (added_at ws bs rs) (s + 1)
+        added_sum_kept = rw added_bits (next_turn_kept AMOUNT (added_at ws bs rs) s (λ j m. (added_all j (omega arith) m).1) n e (omega arith))
 
 pub column_long : (cs ls : List ℤ) (n : ℕ) (before ws : List ℤ) → ws ≡ table (offtake_at cs ls) n ++ drop n before → n ≤ length before → length ws ≡ length before
 column_long cs ls n before ws e l =

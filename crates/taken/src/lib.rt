@@ -6,15 +6,16 @@ pub mod user_numbers;
 ghost use Rattle.std.specs.Prelude.{◌≡◌, ℕ, ◌*◌, ◌≤◌, ◌<◌, length};
 ghost use Rattle.numbers.specs.Sums.{atZ};
 ghost use Rattle.numbers.specs.Amounts.{Within, Decides};
-ghost use Rattle.point_day.specs.Limits.{USERS, CELLS};
+ghost use Rattle.point_day.specs.Limits.{USERS};
 ghost use Rattle.point_day.specs.Day.{measurement_right};
-ghost use Rattle.state.specs.Places.{ROOM, Lengths, LowSlot, SizedSlot, offtake_at, whole_at};
+ghost use Rattle.state.specs.Places.{ROOM, LowSlot, SizedSlot, offtake_at, whole_at};
 ghost use Rattle.point_day.specs.Fields.{point_day};
 ghost use Rattle.taken.specs.Tested.{StateOf, TestedParts, Found, Head, Ended, Offtakes, Balances, Entering, Allotted, added_at, any_large};
 ghost use Rattle.point_day.specs.declared.Stage.{Stage};
 
 use numbers::Refusal;
-use point_day::{AMOUNT, CELLS, KINDS, LIMIT, Measurement, PointDay, Stage, USERS};
+use point_day::{AMOUNT, KINDS, LIMIT, Measurement, PointDay, Stage, USERS};
+use state::amounts::Amounts;
 
 // The greatest sum, and the least and the greatest whole amount.
 const SUM: i64 = LIMIT as i64;
@@ -45,12 +46,12 @@ fn head_right(measurement: Option<Measurement>, n: usize, users: &[u16]) -> bool
 }
 
 // Whether the consumption and losses of each of n users are low. (Not one function with `all_sized`: each is one test of its own arrays.)
-fn all_low(consumption: &[i64], losses: &[i64], n: usize) -> bool
-    requires { (n ≤ USERS) × (length consumption.now ≡ CELLS) × (length losses.now ≡ CELLS) }
-    ensures { Decides result ((s : ℕ) → s < n → LowSlot consumption.now losses.now s) }
+fn all_low(amounts: &Amounts, n: usize) -> bool
+    requires { n ≤ USERS }
+    ensures { Decides result ((s : ℕ) → s < n → LowSlot amounts.now.consumption.now amounts.now.losses.now s) }
 {
     for s in 0..n {
-        if !state::user_low(consumption, losses, s) {
+        if !state::user_low(amounts.consumption, amounts.losses, s) {
             return false;
         }
     }
@@ -58,13 +59,13 @@ fn all_low(consumption: &[i64], losses: &[i64], n: usize) -> bool
 }
 
 // Consumption and losses of n users, all low, into a column.
-fn add_offtakes(consumption: &[i64], losses: &[i64], n: usize, wholes: &mut [i64]) -> Option<i64>
-    requires { (n ≤ USERS) × (length consumption.now ≡ CELLS) × (length losses.now ≡ CELLS) × (length wholes.old ≡ USERS) × ((s : ℕ) → s < n → LowSlot consumption.now losses.now s) }
-    ensures { Found (Offtakes n consumption.now losses.now) (offtake_at consumption.now losses.now) n wholes.old result wholes.new }
+fn add_offtakes(amounts: &Amounts, n: usize, wholes: &mut [i64]) -> Option<i64>
+    requires { (n ≤ USERS) × (length wholes.old ≡ USERS) × ((s : ℕ) → s < n → LowSlot amounts.now.consumption.now amounts.now.losses.now s) }
+    ensures { Found (Offtakes n amounts.now.consumption.now amounts.now.losses.now) (offtake_at amounts.now.consumption.now amounts.now.losses.now) n wholes.old result wholes.new }
 {
     let mut sum: i64 = 0;
     for s in 0..n {
-        let offtake = state::user_offtake(consumption, losses, s);
+        let offtake = state::user_offtake(amounts.consumption, amounts.losses, s);
         wholes[s] = offtake;
         sum += offtake;
     }
@@ -73,28 +74,27 @@ fn add_offtakes(consumption: &[i64], losses: &[i64], n: usize, wholes: &mut [i64
 
 // Consumption and losses of n users: each is tested before it is added, so that nothing overflows on any values. (Two passes, of which each
 // needs fewer registers, are faster than one.)
-fn offtakes_test(consumption: &[i64], losses: &[i64], n: usize, wholes: &mut [i64]) -> Option<i64>
-    requires { (n ≤ USERS) × (length consumption.now ≡ CELLS) × (length losses.now ≡ CELLS) × (length wholes.old ≡ USERS) }
-    ensures { Found (Offtakes n consumption.now losses.now) (offtake_at consumption.now losses.now) n wholes.old result wholes.new }
+fn offtakes_test(amounts: &Amounts, n: usize, wholes: &mut [i64]) -> Option<i64>
+    requires { (n ≤ USERS) × (length wholes.old ≡ USERS) }
+    ensures { Found (Offtakes n amounts.now.consumption.now amounts.now.losses.now) (offtake_at amounts.now.consumption.now amounts.now.losses.now) n wholes.old result wholes.new }
 {
-    if !all_low(consumption, losses, n) {
+    if !all_low(amounts, n) {
         return None;
     }
-    add_offtakes(consumption, losses, n, wholes)
+    add_offtakes(amounts, n, wholes)
 }
 
 // The amounts of n users while entering: whole amounts are consumption and losses.
-fn entering_test(
-    n: usize,
-    consumption: &[i64],
-    losses: &[i64],
-    balance: &[i64],
-    revision: &[i64],
-    wholes: &mut [i64],
-) -> Option<i64>
-    requires { (n ≤ USERS) × Lengths consumption.now losses.now balance.now revision.now × (length wholes.old ≡ USERS) }
-    ensures { Found (Entering n consumption.now losses.now balance.now revision.now) (offtake_at consumption.now losses.now) n wholes.old result wholes.new }
+fn entering_test(amounts: &Amounts, n: usize, wholes: &mut [i64]) -> Option<i64>
+    requires { (n ≤ USERS) × (length wholes.old ≡ USERS) }
+    ensures { Found (Entering n amounts.now.consumption.now amounts.now.losses.now amounts.now.balance.now amounts.now.revision.now) (offtake_at amounts.now.consumption.now amounts.now.losses.now) n wholes.old result wholes.new }
 {
+    let Amounts {
+        consumption,
+        losses,
+        balance,
+        revision,
+    } = *amounts;
     if !numbers::all_zero(balance, 0) {
         return None;
     }
@@ -107,16 +107,16 @@ fn entering_test(
     if !numbers::all_zero(losses, KINDS * n) {
         return None;
     }
-    offtakes_test(consumption, losses, n, wholes)
+    offtakes_test(amounts, n, wholes)
 }
 
 // Whether the balances and the revision of each of n users are in range.
-fn all_sized(balance: &[i64], revision: &[i64], n: usize) -> bool
-    requires { (n ≤ USERS) × (length balance.now ≡ CELLS) × (length revision.now ≡ USERS) }
-    ensures { Decides result ((s : ℕ) → s < n → SizedSlot balance.now revision.now s) }
+fn all_sized(amounts: &Amounts, n: usize) -> bool
+    requires { n ≤ USERS }
+    ensures { Decides result ((s : ℕ) → s < n → SizedSlot amounts.now.balance.now amounts.now.revision.now s) }
 {
     for s in 0..n {
-        if !state::user_sized(balance, revision, s) {
+        if !state::user_sized(amounts.balance, amounts.revision, s) {
             return false;
         }
     }
@@ -124,13 +124,13 @@ fn all_sized(balance: &[i64], revision: &[i64], n: usize) -> bool
 }
 
 // Balances and revisions of n users, all in range, added to a column of consumption and losses.
-fn add_balances(balance: &[i64], revision: &[i64], n: usize, wholes: &mut [i64]) -> Option<i64>
-    requires { (n ≤ USERS) × (length balance.now ≡ CELLS) × (length revision.now ≡ USERS) × (length wholes.old ≡ USERS) × ((s : ℕ) → s < n → Within (10 * ROOM) (atZ wholes.old s)) × ((s : ℕ) → s < n → SizedSlot balance.now revision.now s) }
-    ensures { Found (Balances n wholes.old balance.now revision.now) (added_at wholes.old balance.now revision.now) n wholes.old result wholes.new }
+fn add_balances(amounts: &Amounts, n: usize, wholes: &mut [i64]) -> Option<i64>
+    requires { (n ≤ USERS) × (length wholes.old ≡ USERS) × ((s : ℕ) → s < n → Within (10 * ROOM) (atZ wholes.old s)) × ((s : ℕ) → s < n → SizedSlot amounts.now.balance.now amounts.now.revision.now s) }
+    ensures { Found (Balances n wholes.old amounts.now.balance.now amounts.now.revision.now) (added_at wholes.old amounts.now.balance.now amounts.now.revision.now) n wholes.old result wholes.new }
 {
     let mut sum: i64 = 0;
     for s in 0..n {
-        let whole = wholes[s] + state::user_balance(balance, revision, s);
+        let whole = wholes[s] + state::user_balance(amounts.balance, amounts.revision, s);
         if AMOUNT < whole.unsigned_abs() {
             return None;
         }
@@ -145,27 +145,27 @@ fn add_balances(balance: &[i64], revision: &[i64], n: usize, wholes: &mut [i64])
 }
 
 // Balances and revisions of n users, added to a column of consumption and losses: each is tested before it is added.
-fn balances_test(balance: &[i64], revision: &[i64], n: usize, wholes: &mut [i64]) -> Option<i64>
-    requires { (n ≤ USERS) × (length balance.now ≡ CELLS) × (length revision.now ≡ USERS) × (length wholes.old ≡ USERS) × ((s : ℕ) → s < n → Within (10 * ROOM) (atZ wholes.old s)) }
-    ensures { Found (Balances n wholes.old balance.now revision.now) (added_at wholes.old balance.now revision.now) n wholes.old result wholes.new }
+fn balances_test(amounts: &Amounts, n: usize, wholes: &mut [i64]) -> Option<i64>
+    requires { (n ≤ USERS) × (length wholes.old ≡ USERS) × ((s : ℕ) → s < n → Within (10 * ROOM) (atZ wholes.old s)) }
+    ensures { Found (Balances n wholes.old amounts.now.balance.now amounts.now.revision.now) (added_at wholes.old amounts.now.balance.now amounts.now.revision.now) n wholes.old result wholes.new }
 {
-    if !all_sized(balance, revision, n) {
+    if !all_sized(amounts, n) {
         return None;
     }
-    add_balances(balance, revision, n, wholes)
+    add_balances(amounts, n, wholes)
 }
 
-// Whether nothing stands past the last of n users.
-fn none_past(
-    consumption: &[i64],
-    losses: &[i64],
-    balance: &[i64],
-    revision: &[i64],
-    n: usize,
-) -> bool
+// Whether nothing stands past the last of n users. (The count goes beside the arrays: their rests begin at two different places.)
+fn none_past(amounts: &Amounts, n: usize) -> bool
     requires { n ≤ USERS }
-    ensures { Decides result (Ended n consumption.now losses.now balance.now revision.now) }
+    ensures { Decides result (Ended n amounts.now.consumption.now amounts.now.losses.now amounts.now.balance.now amounts.now.revision.now) }
 {
+    let Amounts {
+        consumption,
+        losses,
+        balance,
+        revision,
+    } = *amounts;
     numbers::all_zero(consumption, KINDS * n)
         && numbers::all_zero(losses, KINDS * n)
         && numbers::all_zero(balance, KINDS * n)
@@ -175,15 +175,12 @@ fn none_past(
 // The amounts of n users once allotted: whole amounts are consumption and losses, and then balances and revision.
 fn allotted_test(
     measurement: Option<Measurement>,
+    amounts: &Amounts,
     n: usize,
-    consumption: &[i64],
-    losses: &[i64],
-    balance: &[i64],
-    revision: &[i64],
     wholes: &mut [i64],
 ) -> Option<i64>
-    requires { (n ≤ USERS) × Lengths consumption.now losses.now balance.now revision.now × (length wholes.old ≡ USERS) }
-    ensures { Found (Allotted measurement n consumption.now losses.now balance.now revision.now) (whole_at consumption.now losses.now balance.now revision.now) n wholes.old result wholes.new }
+    requires { (n ≤ USERS) × (length wholes.old ≡ USERS) }
+    ensures { Found (Allotted measurement n amounts.now.consumption.now amounts.now.losses.now amounts.now.balance.now amounts.now.revision.now) (whole_at amounts.now.consumption.now amounts.now.losses.now amounts.now.balance.now amounts.now.revision.now) n wholes.old result wholes.new }
 {
     if n == 0 {
         return None;
@@ -191,11 +188,11 @@ fn allotted_test(
     if !state::is_measured(measurement) {
         return None;
     }
-    if !none_past(consumption, losses, balance, revision, n) {
+    if !none_past(amounts, n) {
         return None;
     }
-    offtakes_test(consumption, losses, n, wholes)?;
-    balances_test(balance, revision, n, wholes)
+    offtakes_test(amounts, n, wholes)?;
+    balances_test(amounts, n, wholes)
 }
 
 // The tests of a point-day in parts.
@@ -203,34 +200,25 @@ fn parts_test(
     allotted: bool,
     measurement: Option<Measurement>,
     n: usize,
-    users: &[u16],
-    consumption: &[i64],
-    losses: &[i64],
-    balance: &[i64],
-    revision: &[i64],
+    users: &[u16; USERS],
+    amounts: &Amounts,
     wholes: &mut [i64],
 ) -> Option<i64>
-    requires { (length users.now ≡ USERS) × Lengths consumption.now losses.now balance.now revision.now × (length wholes.old ≡ USERS) }
-    ensures { (stage : Stage) → TestedParts (point_day stage allotted measurement n users.now consumption.now losses.now balance.now revision.now) wholes.old result wholes.new }
+    requires { length wholes.old ≡ USERS }
+    ensures { (stage : Stage) → TestedParts (point_day stage allotted measurement n users.now amounts.now.consumption.now amounts.now.losses.now amounts.now.balance.now amounts.now.revision.now) wholes.old result wholes.new }
 {
     if !head_right(measurement, n, users) {
         return None;
     }
     if allotted {
-        return allotted_test(
-            measurement,
-            n,
-            consumption,
-            losses,
-            balance,
-            revision,
-            wholes,
-        );
+        return allotted_test(measurement, amounts, n, wholes);
     }
-    entering_test(n, consumption, losses, balance, revision, wholes)
+    entering_test(amounts, n, wholes)
 }
 
-// A taken point-day: all that it holds but its amounts, and its users' whole amounts with their sum.
+// A taken point-day: all that it holds but its amounts, and its users' whole amounts with their sum. (No ghost field tells their ranges: the
+// tests of a measure, a start-final and a stand-in ask nothing of the count, and a type may not ask more. So `state.now.count ≤ USERS` stands
+// in three contracts.)
 #[derive(Clone, Copy)]
 pub struct State {
     pub stage: Stage,
@@ -242,33 +230,19 @@ pub struct State {
     pub sum: i64,
 }
 
-// The test of a point-day in parts: fields of a point-day by value, or parts of a longer list, whose lengths are told to the compiler.
+// The test of a point-day in parts.
 pub fn test_state(
     stage: Stage,
     allotted: bool,
     measurement: Option<Measurement>,
     count: usize,
     users: [u16; USERS],
-    consumption: &[i64],
-    losses: &[i64],
-    balance: &[i64],
-    revision: &[i64],
+    amounts: &Amounts,
 ) -> Result<State, Refusal>
-    requires { Lengths consumption.now losses.now balance.now revision.now }
-    ensures { StateOf (point_day stage allotted measurement count users consumption.now losses.now balance.now revision.now) result }
+    ensures { StateOf (point_day stage allotted measurement count users amounts.now.consumption.now amounts.now.losses.now amounts.now.balance.now amounts.now.revision.now) result }
 {
     let mut wholes = numbers::repeat::<_, USERS>(0);
-    let Some(sum) = parts_test(
-        allotted,
-        measurement,
-        count,
-        &users,
-        &consumption[..CELLS],
-        &losses[..CELLS],
-        &balance[..CELLS],
-        &revision[..USERS],
-        &mut wholes,
-    ) else {
+    let Some(sum) = parts_test(allotted, measurement, count, &users, amounts, &mut wholes) else {
         return Err(Refusal::OutOfRange);
     };
     Ok(State {
@@ -286,16 +260,19 @@ pub fn test_state(
 pub fn test_day(day: &PointDay) -> Result<State, Refusal>
     ensures { StateOf day.now result }
 {
+    let amounts = Amounts {
+        consumption: &day.consumption,
+        losses: &day.losses,
+        balance: &day.balance,
+        revision: &day.revision,
+    };
     test_state(
         day.stage,
         day.allotted,
         day.measurement,
         day.count,
         day.users,
-        &day.consumption,
-        &day.losses,
-        &day.balance,
-        &day.revision,
+        &amounts,
     )
 }
 

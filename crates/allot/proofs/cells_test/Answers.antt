@@ -1,17 +1,17 @@
 -- `allot::cells_test` meets its contract on any entering point-day that has these parts. Assumes nothing.
-use mathlib.Core.Path.{◌≡◌, sym, ap, ◌∙◌, subst⁻¹}
+use mathlib.Core.Path.{◌≡◌, sym, ◌∙◌, subst⁻¹}
+use mathlib.Core.List.{List}
+use Prim.Native.Nat.{ℕ, ◌≤◌}
+use lib.IntN.{ℤ}
 use native.Mathlib.Omega.{arith}
-use lib.ListN.{length}
+use lib.ListN.{length, take}
 use lib.Seq.{length-take-le}
 use borrow.Author.Rules.{rules}
-use Rattle.numbers.specs.Sums.{table}
 use Rattle.numbers.specs.Amounts.{SAFE, Within}
 use Rattle.numbers.proofs.Amounts.{back, within_pos}
-use Rattle.numbers.proofs.Sums.{length_table}
-use Rattle.point_day.specs.Limits.{USERS}
+use Rattle.point_day.specs.Limits.{USERS, CELLS}
 use Rattle.point_day.proofs.Taken.{taken_facts}
-use Rattle.state.specs.Places.{whole_at}
-use Rattle.taken.proofs.Facts.{facts, taken_summable, first_wholes}
+use Rattle.taken.proofs.Facts.{facts, taken_summable}
 use Rattle.allot.specs.Allotted.{Tested}
 use Rattle.allot.proofs.balance.Cells.{none_long}
 use Rattle.allot.proofs.OfParts.{is_of_parts, allottable_parts}
@@ -53,6 +53,30 @@ balance_cells-requires c =
     let f = facts _ z t in
     let room : length c.args.state.now.wholes ≡ USERS = search rules in let first = length-take-le c.args.state.now.count c.args.state.now.users (omega (arith, f.few, z.users)) in record { within = (rw (b, back small (omega arith)) small, none_long c.requires.1, f.apart); users_nonzero = (omega (arith, a.users, first), omega (arith, f.few, first), omega (arith, f.few, first, room)) }
 
+pub invariant_of-amounts : goal.invariant_of-amounts
+invariant_of-amounts c =
+    let cs : length c.args.consumption.now ≡ CELLS = search rules in
+    let ls : length c.args.losses.now ≡ CELLS = search rules in
+    let bs : length c.balance_cells.new.cells ≡ CELLS = search rules in
+    let rs : length c.args.revision.now ≡ USERS = search rules in
+    record { lengths = record { consumption = cs; losses = ls; balance = bs; revision = rs } }
+
+-- a column of USERS amounts has slots for n users
+slots : (n : ℕ) (zs : List ℤ) → n ≤ USERS → length zs ≡ USERS → length (take n zs) ≡ n
+slots n zs few room = length-take-le n zs (omega (arith, few, room))
+
+pub slice_bounds-shares-end : goal.slice_bounds-shares-end
+slice_bounds-shares-end c =
+    let k = (allottable_parts c.requires.0.holds).has.known in
+    let room : length c.balance_cells.new.shares ≡ USERS = search rules in
+    omega (arith, (facts _ k.sized k.is_taken).few, room)
+
+pub slice_bounds-wholes-end : goal.slice_bounds-wholes-end
+slice_bounds-wholes-end c =
+    let k = (allottable_parts c.requires.0.holds).has.known in
+    let room : length c.balance_cells.new.shares ≡ USERS = search rules in
+    sym (slots c.args.state.now.count c.balance_cells.new.shares (facts _ k.sized k.is_taken).few room)
+
 pub whole_amounts-requires : goal.whole_amounts-requires
 whole_amounts-requires c =
     let a = allottable_parts c.requires.0.holds in
@@ -61,30 +85,15 @@ whole_amounts-requires c =
     let t = k.is_taken in
     let net = c.net.ensures in
     let bs = c.balance_cells.new.cells in
-    let long : length c.balance_cells.new.cells ≡ length c.args.cells.now = search rules in
     let w = cells_left _ z t a.entering a.measured a.users net.0 net.1 k.sum c.minus-day_balance.ensures c.requires.1 c.balance_cells.ensures.cells_after in
     let l = taken_summable _ z t in
     let room : length c.balance_cells.new.shares ≡ USERS = search rules in (
-      l.few,
-      omega (arith, l.few, room),
+      omega (arith, slots c.args.state.now.count c.balance_cells.new.shares l.few room, l.few),
       l.consumption,
       l.losses,
       balances_small _ z t a.entering (users_are _ z t a.users) bs w,
       l.revision,
-      record { consumption = z.consumption; losses = z.losses; balance = long ∙ none_long c.requires.1; revision = z.revision },
     )
-
-pub slice_bounds-shares-end : goal.slice_bounds-shares-end
-slice_bounds-shares-end c =
-    let a = c.args in
-    let f = whole_at a.consumption.now a.losses.now c.balance_cells.new.cells a.revision.now in
-    filled_long (table f a.state.now.count) _ (length_table f a.state.now.count) c.whole_amounts.ensures
-
-pub slice_bounds-wholes_too_large-end : goal.slice_bounds-wholes_too_large-end
-slice_bounds-wholes_too_large-end c =
-    let a = c.args in
-    let f = whole_at a.consumption.now a.losses.now c.balance_cells.new.cells a.revision.now in
-    sym (ap length (first_wholes f a.state.now.count _ c.whole_amounts.ensures) ∙ length_table f a.state.now.count)
 
 pub returns-then-wholes_too_large : goal.returns-then-wholes_too_large
 returns-then-wholes_too_large c d h =
@@ -94,8 +103,9 @@ returns-then-wholes_too_large c d h =
     let bs = c.balance_cells.new.cells in
     let long : length bs ≡ length c.args.cells.now = search rules in
     let w = cells_left _ k.sized k.is_taken a.entering a.measured a.users net.0 net.1 k.sum c.minus-day_balance.ensures c.requires.1 c.balance_cells.ensures.cells_after in
-    let f = whole_at c.args.consumption.now c.args.losses.now bs c.args.revision.now in
-    let large = large_after _ k.sized k.is_taken a.entering (users_are _ k.sized k.is_taken a.users) bs w (long ∙ none_long c.requires.1) _ (first_wholes f c.args.state.now.count _ c.whole_amounts.ensures) in
+    let room : length c.balance_cells.new.shares ≡ USERS = search rules in
+    let first = slots c.args.state.now.count c.balance_cells.new.shares (facts _ k.sized k.is_taken).few room in
+    let large = large_after _ k.sized k.is_taken a.entering (users_are _ k.sized k.is_taken a.users) bs w (long ∙ none_long c.requires.1) _ (rw first at c.whole_amounts.ensures) in
     let o = allot_12 _ k.sized k.is_taken a.entering a.measured a.users (sym large ∙ sym c.wholes_too_large.ensures ∙ c.if-wholes_too_large.true) in
     subst⁻¹ (λ x. Tested bs x 12) (is_of_parts h.has) (fails bs _ 11 o)
 
@@ -107,7 +117,8 @@ returns c d h =
     let bs = c.balance_cells.new.cells in
     let long : length bs ≡ length c.args.cells.now = search rules in
     let w = cells_left _ k.sized k.is_taken a.entering a.measured a.users net.0 net.1 k.sum c.minus-day_balance.ensures c.requires.1 c.balance_cells.ensures.cells_after in
-    let f = whole_at c.args.consumption.now c.args.losses.now bs c.args.revision.now in
-    let large = large_after _ k.sized k.is_taken a.entering (users_are _ k.sized k.is_taken a.users) bs w (long ∙ none_long c.requires.1) _ (first_wholes f c.args.state.now.count _ c.whole_amounts.ensures) in
+    let room : length c.balance_cells.new.shares ≡ USERS = search rules in
+    let first = slots c.args.state.now.count c.balance_cells.new.shares (facts _ k.sized k.is_taken).few room in
+    let large = large_after _ k.sized k.is_taken a.entering (users_are _ k.sized k.is_taken a.users) bs w (long ∙ none_long c.requires.1) _ (rw first at c.whole_amounts.ensures) in
     let o = allot_done _ k.sized k.is_taken a.entering a.measured a.users (sym large ∙ sym c.wholes_too_large.ensures ∙ c.if-wholes_too_large.false) w in
     subst⁻¹ (λ x. Tested bs x 0) (is_of_parts h.has) (passes bs _ record { is = o; taken = k.is_taken })

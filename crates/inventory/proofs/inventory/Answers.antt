@@ -1,6 +1,5 @@
 -- `inventory::inventory` meets its contract. Assumes nothing.
 use mathlib.Core.Path.{refl}
-use borrow.Author.Rules.{rules}
 use Rattle.numbers.proofs.Refusals.{refusal_passed}
 use Rattle.taken.proofs.Facts.{known_few}
 use Rattle.inventory.proofs.Outcomes.{not_taken}
@@ -13,7 +12,7 @@ returns-in_err-state c =
     record { result_value = rw (refusal_passed _ _ c.from_residual.ensures.1, u.1) e.0; afterwards = e.1 }
 
 pub list_rows-requires : goal.list_rows-requires
-list_rows-requires c = (known_few c.in_ok-state.ensures, search rules, search rules, search rules)
+list_rows-requires c = known_few c.in_ok-state.ensures
 
 pub returns : goal.returns
 returns c =

@@ -18,7 +18,7 @@ returns-then-not-state c d k x y z =
 pub overflow_mul-rows : goal.overflow_mul-rows
 overflow_mul-rows c =
     let a = c.args in
-    omega (arith, c.count_rows-rows.ensures, count_le a.consumption.now a.losses.now a.balance.now (KINDS * a.state.now.count), c.requires.0)
+    omega (arith, c.count_rows-rows.ensures, count_le a.consumption.now a.losses.now a.balance.now (KINDS * a.state.now.count), c.requires)
 
 pub returns-then-out-rows : goal.returns-then-out-rows
 returns-then-out-rows c d k x y z =

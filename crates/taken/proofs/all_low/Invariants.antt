@@ -3,4 +3,4 @@ use Rattle.state.specs.Places.{LowSlot}
 use Rattle.taken.proofs.all_low.Given as goal
 
 abbrev pub invariant-loop-s : goal.invariant-loop-s
-invariant-loop-s l = (l.s ≤ l.n) × ((j : ℕ) → 0 ≤ j → j < l.s → LowSlot l.consumption l.losses j)
+invariant-loop-s l = (l.s ≤ l.n) × ((j : ℕ) → 0 ≤ j → j < l.s → LowSlot l.amounts.consumption.now l.amounts.losses.now j)

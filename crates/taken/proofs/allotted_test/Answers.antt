@@ -9,21 +9,21 @@ use Rattle.taken.proofs.allotted_test.Goals as goal
 pub balances_test-requires : goal.balances_test-requires
 balances_test-requires c =
     let a = c.args in
+    let m = c.args.amounts.now in
     let p = c.requires in
     let o = c.in_ok-offtakes_test.ensures in
     let e = o.1.wholes in (
       p.0,
-      p.1.balance,
-      p.1.revision,
-      column_long a.consumption.now a.losses.now a.n a.wholes.now _ e (omega (arith, p.0, p.2)) ∙ p.2,
-      λ s l. rw (column_at a.consumption.now a.losses.now a.balance.now a.revision.now a.n a.wholes.now _ e s l) (offtake_within a.consumption.now a.losses.now s (o.0.low s l)),
+      column_long m.consumption.now m.losses.now a.n a.wholes.now _ e (omega (arith, p.0, p.1)) ∙ p.1,
+      λ s l. rw (column_at m.consumption.now m.losses.now m.balance.now m.revision.now a.n a.wholes.now _ e s l) (offtake_within m.consumption.now m.losses.now s (o.0.low s l)),
     )
 
 pub returns : goal.returns
 returns c =
     let a = c.args in
+    let m = c.args.amounts.now in
     let o = c.in_ok-offtakes_test.ensures in
-    allotted_found a.consumption.now a.losses.now a.balance.now a.revision.now a.n a.wholes.now _ o.1.wholes _ _
+    allotted_found m.consumption.now m.losses.now m.balance.now m.revision.now a.n a.wholes.now _ o.1.wholes _ _
     (λ s w. record {
       users = c.if-n-eq0.false;
       measured = search rules;
