@@ -93,7 +93,7 @@ pub fn count_in(xs: &[i64]) -> usize
     size_at(xs, COUNT_AT) as usize
 }
 
-// The amounts, where they stand.
+// The amounts, lent where they stand.
 pub fn amounts_in<'a>(xs: &'a [i64]) -> Amounts<'a>
     requires { length xs.now ≡ LENGTH }
     ensures { let d = day_in xs.now in (result.consumption.now ≡ d.consumption) × (result.losses.now ≡ d.losses) × (result.balance.now ≡ d.balance) × (result.revision.now ≡ d.revision) }

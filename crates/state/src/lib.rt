@@ -94,7 +94,8 @@ pub fn add_at(cells: &mut [i64], i: usize, x: u64)
     cells[i] += x as i64;
 }
 
-// Whether emission and downstream emission are in range.
+// Whether emission and downstream emission are in range. (This function and the next three are definitions of `Day`, with their arguments,
+// and no methods of `Stage` and `Measurement`: emissions are tested before they are a measurement, and a measurement may be missing.)
 pub fn emission_right(emission: u64, downstream: u64) -> bool
     ensures { result ≡ emission_right emission downstream }
 {

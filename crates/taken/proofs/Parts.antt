@@ -7,7 +7,7 @@ use Prim.Native.Nat.{ℕ, zero, suc, ◌+◌, ◌*◌, ◌/◌, ◌%◌, ◌≤�
 use native.Mathlib.Omega.{arith}
 use lib.Dec.{eqb}
 use lib.IntN.{ℤ, pos, negsuc, nat_abs, ◌+ℤ◌, +ℤ_idr}
-use lib.ListN.{length, get_or, drop, length-append, length-drop, get_or-append}
+use lib.ListN.{length, get_or, drop, get_or-append}
 use lib.Seq.{get_or-take, get_or-drop, drop_at}
 use mir.Syntax.{w64}
 use mir.Val.{of_z, to_z, SFits}
@@ -77,10 +77,6 @@ module _ (ws bs rs : List ℤ) (s : ℕ) (h : Within (10 * ROOM) (atZ ws s)) (k 
 
         pub added_sum_kept : to_z w64 (of_z w64 (to_z w64 n +ℤ to_z w64 (of_z w64 (to_z w64 (of_z w64 x) +ℤ to_z w64 (of_z w64 b))))) ≡ sumZ (added_at ws bs rs) (s + 1)
         added_sum_kept = rw added_bits (next_turn_kept AMOUNT (added_at ws bs rs) s (λ j m. (added_all j (omega arith) m).1) n e (omega arith))
-
-pub column_long : (cs ls : List ℤ) (n : ℕ) (before ws : List ℤ) → ws ≡ table (offtake_at cs ls) n ++ drop n before → n ≤ length before → length ws ≡ length before
-column_long cs ls n before ws e l =
-    ap length e ∙ omega (arith, length-append (table (offtake_at cs ls) n) (drop n before), length_table (offtake_at cs ls) n, length-drop n before)
 
 -- consumption and losses first, then balances and revisions
 module _ (cs ls bs rs : List ℤ) (n : ℕ) (before ws : List ℤ) (e : ws ≡ table (offtake_at cs ls) n ++ drop n before) where

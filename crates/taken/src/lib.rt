@@ -24,7 +24,7 @@ const LEAST: i64 = 0 - (AMOUNT as i64);
 
 const GREATEST: i64 = AMOUNT as i64;
 
-// Whether the measurement is in range.
+// Whether the measurement is in range; none is. (So it is no method of `Measurement`.)
 fn measurement_right(measurement: Option<Measurement>) -> bool
     ensures { result ≡ measurement_right measurement }
 {
@@ -59,8 +59,8 @@ fn all_low(amounts: &Amounts, n: usize) -> bool
 }
 
 // Consumption and losses of n users, all low, into a column.
-fn add_offtakes(amounts: &Amounts, n: usize, wholes: &mut [i64]) -> Option<i64>
-    requires { (n ≤ USERS) × (length wholes.old ≡ USERS) × ((s : ℕ) → s < n → LowSlot amounts.now.consumption.now amounts.now.losses.now s) }
+fn add_offtakes(amounts: &Amounts, n: usize, wholes: &mut [i64; USERS]) -> Option<i64>
+    requires { (n ≤ USERS) × ((s : ℕ) → s < n → LowSlot amounts.now.consumption.now amounts.now.losses.now s) }
     ensures { Found (Offtakes n amounts.now.consumption.now amounts.now.losses.now) (offtake_at amounts.now.consumption.now amounts.now.losses.now) n wholes.old result wholes.new }
 {
     let mut sum: i64 = 0;
@@ -74,8 +74,8 @@ fn add_offtakes(amounts: &Amounts, n: usize, wholes: &mut [i64]) -> Option<i64>
 
 // Consumption and losses of n users: each is tested before it is added, so that nothing overflows on any values. (Two passes, of which each
 // needs fewer registers, are faster than one.)
-fn offtakes_test(amounts: &Amounts, n: usize, wholes: &mut [i64]) -> Option<i64>
-    requires { (n ≤ USERS) × (length wholes.old ≡ USERS) }
+fn offtakes_test(amounts: &Amounts, n: usize, wholes: &mut [i64; USERS]) -> Option<i64>
+    requires { n ≤ USERS }
     ensures { Found (Offtakes n amounts.now.consumption.now amounts.now.losses.now) (offtake_at amounts.now.consumption.now amounts.now.losses.now) n wholes.old result wholes.new }
 {
     if !all_low(amounts, n) {
@@ -85,8 +85,8 @@ fn offtakes_test(amounts: &Amounts, n: usize, wholes: &mut [i64]) -> Option<i64>
 }
 
 // The amounts of n users while entering: whole amounts are consumption and losses.
-fn entering_test(amounts: &Amounts, n: usize, wholes: &mut [i64]) -> Option<i64>
-    requires { (n ≤ USERS) × (length wholes.old ≡ USERS) }
+fn entering_test(amounts: &Amounts, n: usize, wholes: &mut [i64; USERS]) -> Option<i64>
+    requires { n ≤ USERS }
     ensures { Found (Entering n amounts.now.consumption.now amounts.now.losses.now amounts.now.balance.now amounts.now.revision.now) (offtake_at amounts.now.consumption.now amounts.now.losses.now) n wholes.old result wholes.new }
 {
     let Amounts {
@@ -124,8 +124,8 @@ fn all_sized(amounts: &Amounts, n: usize) -> bool
 }
 
 // Balances and revisions of n users, all in range, added to a column of consumption and losses.
-fn add_balances(amounts: &Amounts, n: usize, wholes: &mut [i64]) -> Option<i64>
-    requires { (n ≤ USERS) × (length wholes.old ≡ USERS) × ((s : ℕ) → s < n → Within (10 * ROOM) (atZ wholes.old s)) × ((s : ℕ) → s < n → SizedSlot amounts.now.balance.now amounts.now.revision.now s) }
+fn add_balances(amounts: &Amounts, n: usize, wholes: &mut [i64; USERS]) -> Option<i64>
+    requires { (n ≤ USERS) × ((s : ℕ) → s < n → Within (10 * ROOM) (atZ wholes.old s)) × ((s : ℕ) → s < n → SizedSlot amounts.now.balance.now amounts.now.revision.now s) }
     ensures { Found (Balances n wholes.old amounts.now.balance.now amounts.now.revision.now) (added_at wholes.old amounts.now.balance.now amounts.now.revision.now) n wholes.old result wholes.new }
 {
     let mut sum: i64 = 0;
@@ -145,8 +145,8 @@ fn add_balances(amounts: &Amounts, n: usize, wholes: &mut [i64]) -> Option<i64>
 }
 
 // Balances and revisions of n users, added to a column of consumption and losses: each is tested before it is added.
-fn balances_test(amounts: &Amounts, n: usize, wholes: &mut [i64]) -> Option<i64>
-    requires { (n ≤ USERS) × (length wholes.old ≡ USERS) × ((s : ℕ) → s < n → Within (10 * ROOM) (atZ wholes.old s)) }
+fn balances_test(amounts: &Amounts, n: usize, wholes: &mut [i64; USERS]) -> Option<i64>
+    requires { (n ≤ USERS) × ((s : ℕ) → s < n → Within (10 * ROOM) (atZ wholes.old s)) }
     ensures { Found (Balances n wholes.old amounts.now.balance.now amounts.now.revision.now) (added_at wholes.old amounts.now.balance.now amounts.now.revision.now) n wholes.old result wholes.new }
 {
     if !all_sized(amounts, n) {
@@ -177,9 +177,9 @@ fn allotted_test(
     measurement: Option<Measurement>,
     amounts: &Amounts,
     n: usize,
-    wholes: &mut [i64],
+    wholes: &mut [i64; USERS],
 ) -> Option<i64>
-    requires { (n ≤ USERS) × (length wholes.old ≡ USERS) }
+    requires { n ≤ USERS }
     ensures { Found (Allotted measurement n amounts.now.consumption.now amounts.now.losses.now amounts.now.balance.now amounts.now.revision.now) (whole_at amounts.now.consumption.now amounts.now.losses.now amounts.now.balance.now amounts.now.revision.now) n wholes.old result wholes.new }
 {
     if n == 0 {
@@ -202,9 +202,8 @@ fn parts_test(
     n: usize,
     users: &[u16; USERS],
     amounts: &Amounts,
-    wholes: &mut [i64],
+    wholes: &mut [i64; USERS],
 ) -> Option<i64>
-    requires { length wholes.old ≡ USERS }
     ensures { (stage : Stage) → TestedParts (point_day stage allotted measurement n users.now amounts.now.consumption.now amounts.now.losses.now amounts.now.balance.now amounts.now.revision.now) wholes.old result wholes.new }
 {
     if !head_right(measurement, n, users) {
@@ -216,9 +215,9 @@ fn parts_test(
     entering_test(amounts, n, wholes)
 }
 
-// A taken point-day: all that it holds but its amounts, and its users' whole amounts with their sum. (No ghost field tells their ranges: the
-// tests of a measure, a start-final and a stand-in ask nothing of the count, and a type may not ask more. So `state.now.count ≤ USERS` stands
-// in three contracts.)
+// A taken point-day: all that it holds but its amounts, and its users' whole amounts with their sum. (No ghost field tells its ranges: the
+// tests of a measure, a start-final and a stand-in ask nothing of the count, and a type may not ask more than they did. So
+// `state.now.count ≤ USERS` stands in three contracts.)
 #[derive(Clone, Copy)]
 pub struct State {
     pub stage: Stage,

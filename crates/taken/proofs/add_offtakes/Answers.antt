@@ -17,7 +17,7 @@ loop-s-init c = (omega arith, fill_none _ _, unfold sumZ in refl)
 pub overflow_add-sum : goal.overflow_add-sum
 overflow_add-sum c =
     let a = c.args.amounts.now in
-    let low = c.requires.2 in
+    let low = c.requires.1 in
     let l = c.loop-s in
     rw c.user_offtake-offtake.ensures
     (next_turn_fits (10 * ROOM) (offtake_at a.consumption.now a.losses.now) l.s (λ j m. offtake_within a.consumption.now a.losses.now j (low j (omega arith))) _ l.invariant.2 (omega arith))
@@ -25,7 +25,7 @@ overflow_add-sum c =
 pub loop-s-preserved : goal.loop-s-preserved
 loop-s-preserved c =
     let a = c.args.amounts.now in
-    let low = c.requires.2 in
+    let low = c.requires.1 in
     let l = c.loop-s in
     let f = offtake_at a.consumption.now a.losses.now in
     let v = ap (λ z. to_z w64 (of_z w64 z)) c.user_offtake-offtake.ensures ∙ back (offtake_within a.consumption.now a.losses.now l.s (low l.s (omega arith))) (omega arith) in (

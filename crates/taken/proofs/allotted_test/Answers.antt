@@ -1,20 +1,16 @@
 -- `taken::allotted_test` meets its contract: each test decides one fact. Assumes nothing.
-use mathlib.Core.Path.{◌∙◌}
-use native.Mathlib.Omega.{arith}
 use borrow.Author.Rules.{rules}
 use Rattle.state.proofs.Lows.{offtake_within}
-use Rattle.taken.proofs.Parts.{column_at, column_long, allotted_found}
+use Rattle.taken.proofs.Parts.{column_at, allotted_found}
 use Rattle.taken.proofs.allotted_test.Goals as goal
 
 pub balances_test-requires : goal.balances_test-requires
 balances_test-requires c =
     let a = c.args in
     let m = c.args.amounts.now in
-    let p = c.requires in
     let o = c.in_ok-offtakes_test.ensures in
     let e = o.1.wholes in (
-      p.0,
-      column_long m.consumption.now m.losses.now a.n a.wholes.now _ e (omega (arith, p.0, p.1)) ∙ p.1,
+      c.requires,
       λ s l. rw (column_at m.consumption.now m.losses.now m.balance.now m.revision.now a.n a.wholes.now _ e s l) (offtake_within m.consumption.now m.losses.now s (o.0.low s l)),
     )
 

@@ -5,4 +5,4 @@ use Rattle.taken.proofs.balances_test.Goals as goal
 pub add_balances-requires : goal.add_balances-requires
 add_balances-requires c =
     let p = c.requires in
-    (p.0, p.1, p.2, c.all_sized.ensures.yes (search rules))
+    (p.0, p.1, c.all_sized.ensures.yes (search rules))
