@@ -4,8 +4,8 @@ ghost use Rattle.numbers.specs.Lists.{distinct};
 
 use crate::marks::Marks;
 
-// A number of its own width.
-pub trait Number: Copy + PartialEq {
+// A number from 0 on, of its own width.
+pub trait Natural: Copy + PartialEq {
     ghost number: { Self → ℕ };
 
     fn number(self) -> u64
@@ -15,7 +15,7 @@ pub trait Number: Copy + PartialEq {
     ghost equal: { (x y : Self) → Self.eq x y ≡ nat_eq (number x) (number y) };
 }
 
-impl Number for u16 {
+impl Natural for u16 {
     ghost number = { λ x. x };
 
     ghost equal = { λ x y. refl };
@@ -25,7 +25,7 @@ impl Number for u16 {
     }
 }
 
-impl Number for u64 {
+impl Natural for u64 {
     ghost number = { λ x. x };
 
     ghost equal = { λ x y. refl };
@@ -36,7 +36,7 @@ impl Number for u64 {
 }
 
 // Whether none stands twice: only one whose bucket is marked is searched for among those before it.
-pub fn are_distinct<T: Number>(xs: &[T]) -> bool
+pub fn are_distinct<T: Natural>(xs: &[T]) -> bool
     ensures { result ≡ distinct (map T.number xs.now) }
 {
     let mut marks = Marks::none();
