@@ -98,7 +98,7 @@ within_pos m = record { size = omega arith }
 
 -- where the amounts up to this one are known to be small
 module _ (m : ℕ) (f : ℕ → ℤ) (i : ℕ) (h : (j : ℕ) → j < i + 1 → Within m (f j)) (s : ℕ) (e : to_z w64 s ≡ sumZ f i) (l : (i + 1) * m < 2 ^ 63) where
-  next_turn : to_z w64 s +ℤ to_z w64 (of_z w64 (f i)) ≡ sumZ f (i + 1)
+  pub next_turn : to_z w64 s +ℤ to_z w64 (of_z w64 (f i)) ≡ sumZ f (i + 1)
   next_turn = ap₂ ◌+ℤ◌ e (back (h i (omega arith)) (omega (arith, add-mul i 1 m, one-mul m))) ∙ sym (sumZ_more f i)
 
   pub next_turn_fits : SFits w64 (to_z w64 s +ℤ to_z w64 (of_z w64 (f i)))
@@ -109,6 +109,9 @@ module _ (m : ℕ) (f : ℕ → ℤ) (i : ℕ) (h : (j : ℕ) → j < i + 1 → 
 
 -- where all are
 module _ (m : ℕ) (f : ℕ → ℤ) (h : (i : ℕ) → Within m (f i)) (i s : ℕ) (e : to_z w64 s ≡ sumZ f i) (l : (i + 1) * m < 2 ^ 63) where
+  pub turn : to_z w64 s +ℤ to_z w64 (of_z w64 (f i)) ≡ sumZ f (i + 1)
+  turn = next_turn m f i (λ j k. h j) s e l
+
   pub turn_fits : SFits w64 (to_z w64 s +ℤ to_z w64 (of_z w64 (f i)))
   turn_fits = next_turn_fits m f i (λ j k. h j) s e l
 

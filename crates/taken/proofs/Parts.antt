@@ -35,6 +35,14 @@ use Rattle.taken.specs.Tested.{TestedParts, Found, Head, Offtakes, Wholes, Balan
 use Rattle.taken.proofs.Facts.{wholes_of, Facts, all_users, some_users, numbers_are, bare, facts, untaken, taken_summable}
 use Rattle.std.specs.Prelude.{Option}
 
+-- ---- the sum of k users is that of n users
+
+pub offtakes_back : (cs ls : List ℤ) (n : ℕ) {k : ℕ} {z : ℤ} → z ≡ sumZ (offtake_at cs ls) k → k ≡ n → z ≡ sumZ (offtake_at cs ls) n
+offtakes_back cs ls n e q = e ∙ ap (sumZ (offtake_at cs ls)) q
+
+pub balances_back : (ws bs rs : List ℤ) (n : ℕ) {k : ℕ} {z : ℤ} → z ≡ sumZ (added_at ws bs rs) k → k ≡ n → z ≡ sumZ (added_at ws bs rs) n
+balances_back ws bs rs n e q = e ∙ ap (sumZ (added_at ws bs rs)) q
+
 -- ---- balances and revisions
 
 same_table : (f g : ℕ → ℤ) (n : ℕ) → ((i : ℕ) → i < n → f i ≡ g i) → table f n ≡ table g n
