@@ -38,7 +38,8 @@ pub fn month_of_34(
     }
 }
 
-// C_m of the other tolls: last year's month times C_c, or the last month, or the daily flow for the month's days.
+// C_m of the other tolls: last year's month times C_c, or the last month, or the daily flow for the month's days. (Beside
+// `month_of_34`: two of the three fractions differ, and each stands as its definition does.)
 #[tactic(auto, unfolding(crate::specs::MonthConsumption::month_other))]
 pub fn month_of_other(
     last_year: Option<u64>,
