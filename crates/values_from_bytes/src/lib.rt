@@ -1,7 +1,7 @@
 // What the calls on supply points, readings and the calendar take, from bytes: numbers, lists and histories, little-endian.
 #![tactic(auto)]
 
-ghost use Rattle.std.specs.Prelude.{◌≤◌, length};
+ghost use Rattle.std.specs.Prelude.{◌≤◌, length, IfOk};
 
 use console::input::{Input, Malformed, Number};
 use history::{ENTRIES, Entry, Reading};
@@ -28,7 +28,8 @@ pub fn read_list<'r, C: Number + Into<usize>, T: Number>(
     input: &mut Input,
     room: &'r mut [T],
 ) -> Result<&'r [T], Malformed>
-    ensures { length input.new ≤ length input.old }
+    ensures within { IfOk result (λ xs. length xs.now ≤ length room.old) }
+    ensures onward { length input.new ≤ length input.old }
 {
     let count = console::input::at_most(C::read(input)?.into(), room.len())?;
     let list = &mut room[..count];
@@ -42,7 +43,8 @@ pub fn read_winter<'r>(
     there: bool,
     room: &'r mut [u32],
 ) -> Result<&'r [u32], Malformed>
-    ensures { length input.new ≤ length input.old }
+    ensures within { IfOk result (λ xs. length xs.now ≤ length room.old) }
+    ensures onward { length input.new ≤ length input.old }
 {
     if there {
         return read_list::<u8, u32>(input, room);
