@@ -6,12 +6,21 @@ use Prim.Native.Nat.{ℕ, suc, ◌+◌, ◌*◌, ◌≤◌, ◌<◌}
 use native.Mathlib.Omega.{arith}
 use lib.ListN.{drop, length}
 use lib.IntN.{ℤ, pos}
+use contract.Lifetimes.{Lfts}
+use denote.RattleType.{RattleType}
+use denote.Param.Laws.{Laws, IsCopy}
+use mir.Syntax.{Dict}
+use Rattle.core.specs.declared.clone.Clone.{Ghosts as CloneGhosts}
+use Rattle.console.specs.declared.input.Number.{Ghosts as NumberGhosts}
+use Rattle.std.specs.Borrow.{MutBor}
 use Rattle.std.specs.Prelude.{Result, Ok, Err, IsOk, IsErr, IfOk, OnOk, OnErr, ◌↔◌}
 use Rattle.console.specs.declared.input.Malformed.{Malformed}
 use Rattle.numbers.specs.Sums.{table}
 use Rattle.numbers.proofs.Lists.{never}
 use Rattle.wire.specs.Bytes.{little_endian, signed_64}
 use Rattle.console.specs.Input.{spelled_in}
+use Rattle.console.proofs.input.U16Number.read.Reads as read_u16
+use Rattle.console.proofs.input.Input.fill.Reads as fill
 
 absent : {n : ℕ} → suc (suc n) ≤ suc n → ⊥
 absent h = absurd (omega arith)
@@ -27,6 +36,11 @@ pub record Reads {A : Type 0} (n : ℕ) (spelled : List ℕ → A) (before : Lis
   pub value : IfOk r (λ x. x ≡ spelled before)
   pub rest : OnOk r (after ≡ drop n before)
   pub same : OnErr r (after ≡ before)
+
+-- so the contract of `<u16 as Number>::read`, as the toolchain reads it for a caller, gives them
+pub u16_reads : (κs : Lfts 2) (input input' : MutBor (List ℕ)) (r : Result ℕ Malformed) → read_u16.Learnt κs (input, tt) r (input', tt)
+    → Reads 2 (λ s. little_endian 2 s 0) input.now r input'.now
+u16_reads κs input input' r h = record { ok = h.0; value = h.1.0; rest = h.1.1.0; same = h.1.1.1.0 }
 
 -- two bytes after the first
 pub two_bytes : (r : Result ℕ Malformed) (after : List ℕ) → Reads 2 (λ s. little_endian 2 s 0) (1 ∷ 2 ∷ []) r after → (r ≡ Ok 513) × (after ≡ [])
@@ -54,6 +68,12 @@ pub record Fills {A U : Type 0} (n : ℕ) (spelled : List ℕ → A) (nought : A
   pub value : OnOk r (new ≡ spelled_in n spelled before (length old))
   pub rest : OnOk r (after ≡ drop (n * length old) before)
   pub cut_short : OnErr r ((k : ℕ) × (n * k ≤ length before) × (length before < n * (k + 1)) × (after ≡ drop (n * k) before) × (new ≡ spelled_in n spelled before k ++ drop k (table (λ i. nought) (length old))))
+
+-- so the contract of `Input::fill` gives them, for every type of numbers
+pub fill_fills : (T : RattleType) (L : Laws T) (C : IsCopy T) (N : NumberGhosts T.Denot) (n : Dict) (K : CloneGhosts T.Denot) (k : Dict) (κs : Lfts 4) (input input' : MutBor (List ℕ)) (list list' : MutBor (List T.Denot)) (r : Result (Unit {0}) Malformed)
+    → fill.Learnt T L C N n K k κs (input, (list, tt)) r (input', (list', tt))
+    → Fills N.size N.spelled N.ZERO input.now r input'.now list.now list'.now
+fill_fills T L C N n K k κs input input' list list' r h = record { ok = h.0; value = h.1.0; rest = h.1.1.0; cut_short = h.1.1.1.0 }
 
 -- two numbers of eight bytes where nine are: the first is read, the second is 0, and the ninth byte is left
 pub then_cut_short : {U : Type 0} (r : Result U Malformed) (after : List ℕ) (old new : List ℤ) → length old ≡ 2
