@@ -1,8 +1,9 @@
 // The arguments of the calls from bytes, little-endian.
 #![tactic(auto)]
 
-ghost use Rattle.std.specs.Prelude.{◌<◌, ◌≤◌, length};
+ghost use Rattle.std.specs.Prelude.{◌<◌};
 ghost use Rattle.point_day.specs.Limits.{ROWS};
+ghost use Rattle.console.specs.Input.{Onward};
 
 use console::input::{Input, Malformed, Number};
 use line::cells::LineEntry;
@@ -11,7 +12,7 @@ use point_day::{Measurement, PAIRS, PointDay, ROWS, Stage, StandInRows, USERS};
 // ---- line
 
 pub fn read_line(input: &mut Input) -> Result<LineEntry, Malformed>
-    ensures { length input.new ≤ length input.old }
+    ensures { Onward input.old input.new }
 {
     Ok(LineEntry {
         user: u16::read(input)?,
@@ -29,7 +30,7 @@ const PAIR_BYTES: usize = 10;
 // Row i of a stand-in: its count, and as many pairs; those past the most users of a point-day are passed over.
 fn read_row(input: &mut Input, i: usize, rows: &mut StandInRows) -> Result<(), Malformed>
     requires { i < ROWS }
-    ensures { length input.new ≤ length input.old }
+    ensures { Onward input.old input.new }
 {
     let count = usize::from(u16::read(input)?);
     rows.counts[i] = count;
@@ -42,7 +43,7 @@ fn read_row(input: &mut Input, i: usize, rows: &mut StandInRows) -> Result<(), M
 }
 
 pub fn read_rows(input: &mut Input) -> Result<StandInRows, Malformed>
-    ensures { length input.new ≤ length input.old }
+    ensures { Onward input.old input.new }
 {
     let mut rows = StandInRows {
         counts: numbers::repeat::<_, ROWS>(0),
@@ -59,7 +60,7 @@ pub fn read_rows(input: &mut Input) -> Result<StandInRows, Malformed>
 
 // (A match on the byte: it is the format's table of stages, read here alone. A TryFrom would have to stand in point_day, with Stage.)
 fn read_stage(input: &mut Input) -> Result<Stage, Malformed>
-    ensures { length input.new ≤ length input.old }
+    ensures { Onward input.old input.new }
 {
     match u8::read(input)? {
         0 => Ok(Stage::Provisional),
@@ -70,7 +71,7 @@ fn read_stage(input: &mut Input) -> Result<Stage, Malformed>
 }
 
 fn read_measurement(input: &mut Input) -> Result<Option<Measurement>, Malformed>
-    ensures { length input.new ≤ length input.old }
+    ensures { Onward input.old input.new }
 {
     let measured = input.flag()?;
     let emission = u64::read(input)?;
@@ -81,9 +82,19 @@ fn read_measurement(input: &mut Input) -> Result<Option<Measurement>, Malformed>
     }))
 }
 
+fn read_arrays(input: &mut Input, day: &mut PointDay) -> Result<(), Malformed>
+    ensures { Onward input.old input.new }
+{
+    input.fill(&mut day.users)?;
+    input.fill(&mut day.consumption)?;
+    input.fill(&mut day.losses)?;
+    input.fill(&mut day.balance)?;
+    input.fill(&mut day.revision)
+}
+
 // The point-day that is loaded: stage, whether it is allotted, measurement and count of users, then its arrays.
 pub fn read_day(input: &mut Input) -> Result<PointDay, Malformed>
-    ensures { length input.new ≤ length input.old }
+    ensures { Onward input.old input.new }
 {
     let stage = read_stage(input)?;
     let allotted = input.flag()?;
@@ -96,10 +107,6 @@ pub fn read_day(input: &mut Input) -> Result<PointDay, Malformed>
         count,
         ..point_day::fresh_day()
     };
-    input.fill(&mut day.users)?;
-    input.fill(&mut day.consumption)?;
-    input.fill(&mut day.losses)?;
-    input.fill(&mut day.balance)?;
-    input.fill(&mut day.revision)?;
+    read_arrays(input, &mut day)?;
     Ok(day)
 }

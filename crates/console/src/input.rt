@@ -3,7 +3,7 @@ ghost use Rattle.std.specs.Prelude.{◌≡◌, ◌↔◌, ◌++◌, List, ℕ, �
 ghost use Rattle.std.specs.Int.{w32, cast_signed};
 ghost use Rattle.numbers.specs.Sums.{bit, table};
 ghost use Rattle.wire.specs.Bytes.{little_endian, signed_64};
-ghost use Rattle.console.specs.Input.{spelled_in, MOST_LENT, lent};
+ghost use Rattle.console.specs.Input.{spelled_in, Onward, MOST_LENT, lent};
 
 use std::marker::Model;
 
@@ -47,15 +47,11 @@ impl<'a> Input<'a> {
         ensures value { IfOk result (λ bytes. bytes ≡ take N self.old) }
         ensures rest { OnOk result (self.new ≡ drop N self.old) }
         ensures same { OnErr result (self.new ≡ self.old) }
-        ensures onward { length self.new ≤ length self.old }
+        ensures onward { Onward self.old self.new }
     {
-        match self.rest.split_first_chunk() {
-            Some((chunk, rest)) => {
-                self.rest = rest;
-                Ok(*chunk)
-            }
-            None => Err(Malformed),
-        }
+        let (chunk, rest) = self.rest.split_first_chunk().ok_or(Malformed)?;
+        self.rest = rest;
+        Ok(*chunk)
     }
 
     // The next bytes, as many as are asked for.
@@ -64,15 +60,11 @@ impl<'a> Input<'a> {
         ensures value { IfOk result (λ bytes. bytes.now ≡ take count self.old) }
         ensures rest { OnOk result (self.new ≡ drop count self.old) }
         ensures same { OnErr result (self.new ≡ self.old) }
-        ensures onward { length self.new ≤ length self.old }
+        ensures onward { Onward self.old self.new }
     {
-        match self.rest.split_at_checked(count) {
-            Some((bytes, rest)) => {
-                self.rest = rest;
-                Ok(bytes)
-            }
-            None => Err(Malformed),
-        }
+        let (bytes, rest) = self.rest.split_at_checked(count).ok_or(Malformed)?;
+        self.rest = rest;
+        Ok(bytes)
     }
 
     // The next byte, which is 0 or 1. (A match on the byte: no TryFrom of std makes a bool of a number.)
@@ -80,7 +72,8 @@ impl<'a> Input<'a> {
         ensures ok { IsOk result ↔ (1 ≤ length self.old) × (little_endian 1 self.old 0 < 2) }
         ensures value { IfOk result (λ b. bit b ≡ little_endian 1 self.old 0) }
         ensures rest { OnOk result (self.new ≡ drop 1 self.old) }
-        ensures onward { length self.new ≤ length self.old }
+        ensures refused { OnErr result (self.new ≡ drop 1 self.old) }
+        ensures onward { Onward self.old self.new }
     {
         match u8::read(self)? {
             0 => Ok(false),
@@ -95,7 +88,7 @@ impl<'a> Input<'a> {
         ensures value { OnOk result (list.new ≡ spelled_in T.size T.spelled self.old (length list.old)) }
         ensures rest { OnOk result (self.new ≡ drop (T.size * length list.old) self.old) }
         ensures cut_short { OnErr result ((k : ℕ) × (T.size * k ≤ length self.old) × (length self.old < T.size * (k + 1)) × (self.new ≡ drop (T.size * k) self.old) × (list.new ≡ spelled_in T.size T.spelled self.old k ++ drop k (table (λ i. T.ZERO) (length list.old)))) }
-        ensures onward { length self.new ≤ length self.old }
+        ensures onward { Onward self.old self.new }
     {
         clear(list);
         self.read_all(list)
@@ -107,7 +100,7 @@ impl<'a> Input<'a> {
         ensures value { OnOk result (list.new ≡ spelled_in T.size T.spelled self.old (length list.old)) }
         ensures rest { OnOk result (self.new ≡ drop (T.size * length list.old) self.old) }
         ensures cut_short { OnErr result ((k : ℕ) × (T.size * k ≤ length self.old) × (length self.old < T.size * (k + 1)) × (self.new ≡ drop (T.size * k) self.old) × (list.new ≡ spelled_in T.size T.spelled self.old k ++ drop k list.old)) }
-        ensures onward { length self.new ≤ length self.old }
+        ensures onward { Onward self.old self.new }
     {
         for x in list {
             *x = T::read(self)?;
@@ -143,7 +136,7 @@ pub trait Number: Copy {
         ensures value { IfOk result (λ n. n ≡ spelled input.old) }
         ensures rest { OnOk result (input.new ≡ drop size input.old) }
         ensures same { OnErr result (input.new ≡ input.old) }
-        ensures onward { length input.new ≤ length input.old };
+        ensures onward { Onward input.old input.new };
 }
 
 // (An impl for each type: the gate takes none that a macro of the repository writes.)
@@ -248,8 +241,8 @@ pub fn lent_numbers() -> [i64; MOST_LENT]
     ensures { result ≡ lent MOST_LENT }
 {
     let mut numbers = numbers::repeat::<_, MOST_LENT>(0);
-    for i in 0..MOST_LENT {
-        numbers[i] = -1 - i as i64;
+    for (i, number) in numbers.iter_mut().enumerate() {
+        *number = -1 - i as i64;
     }
     numbers
 }

@@ -2,6 +2,7 @@
 #![tactic(auto)]
 
 ghost use Rattle.std.specs.Prelude.{◌≤◌, length, IfOk};
+ghost use Rattle.console.specs.Input.{Onward};
 
 use console::input::{Input, Malformed, Number};
 use history::{ENTRIES, Entry, Reading};
@@ -14,7 +15,7 @@ const DEGREE_DAY_BYTES: usize = 4;
 
 // The next optional value.
 pub fn read_optional(input: &mut Input) -> Result<Option<u64>, Malformed>
-    ensures { length input.new ≤ length input.old }
+    ensures { Onward input.old input.new }
 {
     if input.flag()? {
         Ok(Some(u64::read(input)?))
@@ -29,7 +30,7 @@ pub fn read_list<'r, C: Number + Into<usize>, T: Number>(
     room: &'r mut [T],
 ) -> Result<&'r [T], Malformed>
     ensures within { IfOk result (λ xs. length xs.now ≤ length room.old) }
-    ensures onward { length input.new ≤ length input.old }
+    ensures onward { Onward input.old input.new }
 {
     let count = console::input::at_most(C::read(input)?.into(), room.len())?;
     let list = &mut room[..count];
@@ -44,7 +45,7 @@ pub fn read_winter<'r>(
     room: &'r mut [u32],
 ) -> Result<&'r [u32], Malformed>
     ensures within { IfOk result (λ xs. length xs.now ≤ length room.old) }
-    ensures onward { length input.new ≤ length input.old }
+    ensures onward { Onward input.old input.new }
 {
     if there {
         return read_list::<u8, u32>(input, room);
@@ -54,7 +55,7 @@ pub fn read_winter<'r>(
 
 // Passes over the next list of a winter's degree days.
 pub fn pass_winter(input: &mut Input) -> Result<(), Malformed>
-    ensures { length input.new ≤ length input.old }
+    ensures { Onward input.old input.new }
 {
     let count = usize::from(u8::read(input)?);
     input.bytes(DEGREE_DAY_BYTES * count)?;
@@ -64,7 +65,7 @@ pub fn pass_winter(input: &mut Input) -> Result<(), Malformed>
 // The next entry of a history. (A match on the tag: it is the format's table of readings, and the value behind it goes into the reading,
 // which no TryFrom of the tag has.)
 fn read_entry(input: &mut Input) -> Result<Entry, Malformed>
-    ensures { length input.new ≤ length input.old }
+    ensures { Onward input.old input.new }
 {
     let tag = u8::read(input)?;
     let value = u64::read(input)?;
@@ -80,7 +81,7 @@ fn read_entry(input: &mut Input) -> Result<Entry, Malformed>
 
 // The next history, whose count has been read; entries past the most of a history are passed over.
 pub fn read_history(input: &mut Input, count: u16) -> Result<[Entry; ENTRIES], Malformed>
-    ensures { length input.new ≤ length input.old }
+    ensures { Onward input.old input.new }
 {
     let count = usize::from(count);
     let mut history = numbers::repeat::<_, ENTRIES>(Entry {

@@ -1,6 +1,5 @@
-use Prim.Native.Nat.{◌≤◌}
-use lib.ListN.{length}
+use Rattle.console.specs.Input.{Onward}
 use Rattle.arguments_from_bytes.proofs.read_row.Given as goal
 
 abbrev pub invariant-loop-j : goal.invariant-loop-j
-invariant-loop-j l = length l.input ≤ length l.initial.input
+invariant-loop-j l = Onward l.initial.input l.input

@@ -1,6 +1,5 @@
-use Prim.Native.Nat.{◌≤◌}
-use lib.ListN.{length}
+use Rattle.console.specs.Input.{Onward}
 use Rattle.arguments_from_bytes.proofs.read_rows.Given as goal
 
 abbrev pub invariant-loop-i : goal.invariant-loop-i
-invariant-loop-i l = length l.input ≤ length l.initial.input
+invariant-loop-i l = Onward l.initial.input l.input

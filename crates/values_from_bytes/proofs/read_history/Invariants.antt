@@ -1,6 +1,5 @@
-use Prim.Native.Nat.{◌≤◌}
-use lib.ListN.{length}
+use Rattle.console.specs.Input.{Onward}
 use Rattle.values_from_bytes.proofs.read_history.Given as goal
 
 abbrev pub invariant-loop-entry : goal.invariant-loop-entry
-invariant-loop-entry l = length l.input ≤ length l.initial.input
+invariant-loop-entry l = Onward l.initial.input l.input
