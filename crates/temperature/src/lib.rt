@@ -93,8 +93,8 @@ fn is_winter(days: &[u32]) -> bool
 pub struct Winters<'a> {
     pub first: &'a [u32],
     pub second: Option<&'a [u32]>,
-    ghost first_right: { winter_right first.now ≡ true },
-    ghost second_right: { IfSome second (λ s. winter_right s.now ≡ true) } by { Prim.hlevel props },
+    pub ghost first_right: { winter_right first.now ≡ true },
+    pub ghost second_right: { IfSome second (λ s. winter_right s.now ≡ true) } by { Prim.hlevel props },
 }
 
 impl<'a> Winters<'a> {
