@@ -48,7 +48,7 @@ pub fn day_report(file: &[u8], out: &mut [u8]) -> usize
         return 0;
     }
     match write_report(file, out) {
-        Err(refusal) => refusal::put_refused(out, refusal),
+        Err(refusal) => refusal::put_refused(out, u8::from(refusal)),
         Ok(size) => size,
     }
 }

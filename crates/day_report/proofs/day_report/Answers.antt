@@ -13,7 +13,7 @@ pub returns-in-Err : goal.returns-in-Err
 returns-in-Err c =
     let e = c.in-Err.ensures in
     let both = by_refusal c.args.file.now c.args.out.now (omega (arith, c.if-out-lt-REPORT_ROOM.false)) e.out_after (number_of c.in-Err.refusal) e.result_value
-    c.put_refused.ensures.value c.put_refused.ensures.out_after in
+    (rw c.from.ensures at c.put_refused.ensures.value) (rw c.from.ensures at c.put_refused.ensures.out_after) in
     record { value = both.0; out_after = both.1.0; prefix_len = both.1.1 }
 
 pub returns-in-Ok : goal.returns-in-Ok

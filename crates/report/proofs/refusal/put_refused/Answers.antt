@@ -1,6 +1,5 @@
 -- `report::refusal::put_refused` meets its contract. Assumes nothing.
-use Rattle.std.proofs.Common.{ap, ap₂, ◌∙◌, [], ◌∷◌, pos, length, rules, arith}
-use Rattle.numbers.specs.Refusals.{number_of}
+use Rattle.std.proofs.Common.{ap, ap₂, ◌∙◌, [], ◌∷◌, ◌<◌, length, rules, arith}
 use Rattle.numbers.proofs.Amounts.{within_pos}
 use Rattle.wire.specs.Text.{written}
 use Rattle.day_file.specs.Report.{refused}
@@ -11,8 +10,9 @@ use Rattle.report.proofs.refusal.put_refused.Goals as goal
 pub returns : goal.returns
 unfolding text
 returns c =
-    let n = number_of c.args.refusal in
-    let z = wrapped (c.from-2.ensures ∙ ap pos c.from.ensures) (within_pos n) (omega (arith, c.from.ensures, c.from.type_inv)) in
+    let n = c.args.number in
+    let low : n < 256 = search rules in
+    let z = wrapped c.from.ensures (within_pos n) (omega (arith, low)) in
     let l = ap (λ x. text_line refused_word (x ∷ [])) z in
     let new = c.new-text.result in
     let empty = c.new-text.ensures.empty in
