@@ -29,7 +29,7 @@ fn of_slots(xs: &[i64; CELLS], n: usize) -> i64
 
 // The lines of all users.
 fn put_users(text: &mut TextBuffer, slots: &Slots)
-    requires { text.old.len + LONGEST_LINE * slots.now.count ≤ length text.old.buffer.now }
+    requires { (slots.now.count ≤ USERS) × (text.old.len + LONGEST_LINE * slots.now.count ≤ length text.old.buffer.now) }
     ensures same_reference { text.new.buffer.ghost_name ≡ text.old.buffer.ghost_name }
     ensures added { Added text.old.buffer.now text.old.len (flat (table (slot_line slots.now.users.now slots.now.consumption.now slots.now.losses.now slots.now.shares.now) slots.now.count)) text.new.buffer.now text.new.len }
     ensures bound { text.new.len ≤ text.old.len + LONGEST_LINE * slots.now.count }
@@ -41,7 +41,7 @@ fn put_users(text: &mut TextBuffer, slots: &Slots)
 
 // The text of an allotted point-day of these users, in a lent buffer; the answer is how many bytes it has.
 pub fn put_allotted(out: &mut [u8], gas_day: u64, net: u64, offtake: u64, slots: &Slots) -> usize
-    requires { (REPORT_ROOM ≤ length out.old) × (gas_day ≤ LAST_DAY) × (net ≤ LIMIT) × (offtake ≤ LIMIT) }
+    requires { (REPORT_ROOM ≤ length out.old) × (gas_day ≤ LAST_DAY) × (net ≤ LIMIT) × (offtake ≤ LIMIT) × (slots.now.count ≤ USERS) }
     ensures value { result ≡ length (shares_text gas_day net offtake slots.now.count slots.now.users.now slots.now.consumption.now slots.now.losses.now slots.now.shares.now) }
     ensures out_after { out.new ≡ written out.old 0 (shares_text gas_day net offtake slots.now.count slots.now.users.now slots.now.consumption.now slots.now.losses.now slots.now.shares.now) }
 {

@@ -42,7 +42,6 @@ pub struct Slots<'a> {
     pub consumption: &'a [i64; CELLS],
     pub losses: &'a [i64; CELLS],
     pub shares: &'a [i64; USERS],
-    pub ghost few: { count ≤ USERS },
     pub ghost small: { Small consumption.now × Small losses.now × Small shares.now },
 }
 

@@ -16,7 +16,7 @@ use Rattle.report.proofs.put_allotted.Goals as goal
 pub overflow_sub-figures : goal.overflow_sub-figures
 overflow_sub-figures c =
     let d = c.args.slots.now in
-    let range = start_within d.consumption.now d.small.0 d.count d.few in
+    let range = start_within d.consumption.now d.small.0 d.count c.requires.4 in
     sfits (within_sub (cast_safe c.args.offtake (omega (arith, c.requires.3))) (safe c.of_slots-c.ensures range (omega arith))) (omega arith)
 
 -- what is written, and how many bytes it has
@@ -24,7 +24,7 @@ pub returns : goal.returns
 returns c =
     let d = c.args.slots.now in
     let a = c.args in
-    let range = start_within d.consumption.now d.small.0 d.count d.few in
+    let range = start_within d.consumption.now d.small.0 d.count c.requires.4 in
     let day = cast_back a.gas_day (omega (arith, c.requires.1)) in
     let net = cast_back a.net (omega (arith, c.requires.2)) in
     let all = cast_back a.offtake (omega (arith, c.requires.3)) in
@@ -40,6 +40,6 @@ returns c =
     let first = put_first new.buffer.now new.len (offtake_line a.gas_day a.net a.offtake d.count d.consumption.now)
     (p.added.0 ∙ ap (λ t. written new.buffer.now new.len t) line, p.added.1 ∙ ap (λ t. new.len + length t) line)
     (omega (arith, p.bound, empty.0, ap length empty.1, c.requires.0)) in
-    let q = put_more first us u.added (omega (arith, u.bound, p.bound, empty.0, ap length empty.1, d.few, c.requires.0)) in
+    let q = put_more first us u.added (omega (arith, u.bound, p.bound, empty.0, ap length empty.1, c.requires.4, c.requires.0)) in
     let e = q.is ∙ ap₂ (λ b i. written b i (offtake_line a.gas_day a.net a.offtake d.count d.consumption.now ++ us)) empty.1 empty.0 in
     record { value = omega (arith, q.end, empty.0); out_after = search (rules, e) }

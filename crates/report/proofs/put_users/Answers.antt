@@ -11,12 +11,12 @@ pub loop-slot-init : goal.loop-slot-init
 unfolding table flat
 loop-slot-init c =
     let t = c.args.text.now in
-    (put_none t.buffer.now t.len (omega (arith, c.requires)), omega arith, refl)
+    (put_none t.buffer.now t.len (omega (arith, c.requires.1)), omega arith, refl)
 
 pub put_user-requires : goal.put_user-requires
 put_user-requires c =
     let l = c.loop-slot.invariant in
-    (omega (arith, c.args.slots.now.few), omega (arith, put_length l.0, l.1))
+    (omega (arith, c.requires.0), omega (arith, put_length l.0, l.1, c.requires.1))
 
 pub loop-slot-preserved : goal.loop-slot-preserved
 loop-slot-preserved c =

@@ -63,7 +63,6 @@ invariant_of-slots c =
     let e = a.header.emission in
     let w = a.header.downstream in
     let d = difference c.requires.2 e w c.requires.1 refl in record {
-      few = few c.requires.2;
       small = (
         λ i. widen (limited_consumption c.requires.2 i) (omega arith),
         λ i. widen (limited_losses c.requires.2 i) (omega arith),
@@ -74,7 +73,7 @@ invariant_of-slots c =
 pub put_allotted-requires : goal.put_allotted-requires
 put_allotted-requires c =
     let h = c.args.header in
-    (omega (arith, c.if-out-lt-REPORT_ROOM.false), c.requires.0, omega (arith, emission_low c.requires.2 h.emission h.downstream c.requires.1), sum_small c.requires.2)
+    (omega (arith, c.if-out-lt-REPORT_ROOM.false), c.requires.0, omega (arith, emission_low c.requires.2 h.emission h.downstream c.requires.1), sum_small c.requires.2, few c.requires.2)
 
 pub returns : goal.returns
 returns c =
