@@ -38,7 +38,7 @@ pub fn read_list<'r, C: Number + Into<usize>, T: Number>(
     Ok(list)
 }
 
-// The next list of a winter's degree days, if there is one.
+// The next list of a winter's degree days, if there is one. (A flag: at the calls the same test would stand twice.)
 pub fn read_winter<'r>(
     input: &mut Input,
     there: bool,
