@@ -1,14 +1,13 @@
 // The history of a telemetered point: its entries, and the search for the last three real readings on days of the gas day's type.
 #![tactic(auto)]
 
-ghost use Rattle.std.specs.Prelude.{◌≡◌, true, false, ◌≤◌, length, take, IfOk, IfErr};
-ghost use Rattle.numbers.specs.declared.Refusal.TheVariants.{OutOfRange};
+ghost use Rattle.std.specs.Prelude.{◌≡◌, true, List, ◌≤◌, ◌<◌, length};
 ghost use Rattle.numbers.specs.Lists.{every};
-ghost use Rattle.history.specs.History.{ENTRIES, reading_right, value_of, entry_right, history_right, dated};
-ghost use Rattle.history.specs.Search.{found_in};
+ghost use Rattle.history.specs.History.{reading_right, value_of, entry_right, history_right, dated};
+ghost use Rattle.history.specs.Search.{entry_at, found_in};
+ghost use Rattle.history.specs.declared.Entry.{Entry};
 
 use calendar::Calendar;
-use numbers::Refusal;
 use supply::LIMIT;
 
 // The most entries of a history.
@@ -30,6 +29,33 @@ pub enum Reading {
 #[derive(Clone, Copy)]
 pub struct Entry {
     pub reading: Reading,
+}
+
+// The entries of a history that count, nearest day first, however they are held.
+pub trait Entries {
+    ghost entries: { Self → List Entry };
+
+    // How many there are.
+    fn count(&self) -> usize
+        ensures { result ≡ length (entries self.now) };
+
+    // What stands in the history at a place.
+    fn reading(&self, i: usize) -> Reading
+        requires { i < length (entries self.now) }
+        ensures { result ≡ (entry_at (entries self.now) i).reading };
+}
+
+// Entries by value. (The form of document 01.)
+impl<'a> Entries for &'a [Entry] {
+    ghost entries = { λ es. es.now };
+
+    fn count(&self) -> usize {
+        self.len()
+    }
+
+    fn reading(&self, i: usize) -> Reading {
+        self[i].reading
+    }
 }
 
 // What a search finds: the sum and the number of the matches, the entries looked at, and whether any entry is real. (`real` flags none of
@@ -60,50 +86,39 @@ fn is_reading(reading: Reading) -> bool
 }
 
 // Whether each entry is in its range. (No early end, which would be a branch for each entry.)
-fn are_entries(entries: &[Entry]) -> bool
-    ensures { result ≡ every entry_right entries.now }
+fn are_entries<E: Entries>(history: &E) -> bool
+    ensures { result ≡ every entry_right (E.entries history.now) }
 {
     let mut right = true;
-    for entry in entries {
-        right &= is_reading(entry.reading);
+    for i in 0..history.count() {
+        right &= is_reading(history.reading(i));
     }
     right
 }
 
-// The entries that count, refused if the history is not as stated: not too long, and each of them in its range.
+// Whether the history is as stated: not too long, and each entry in its range.
 #[tactic(auto, unfolding(crate::specs::History::history_right))]
-pub fn counted_entries(
-    day: u32,
-    history: &[Entry; ENTRIES],
-    count: usize,
-) -> Result<&[Entry], Refusal>
-    ensures given { IfOk result (λ es. (es.now ≡ take count history.now) × (length es.now ≡ count) × (history_right day count history.now ≡ true)) }
-    ensures refused { IfErr result (λ r. (r ≡ OutOfRange) × (history_right day count history.now ≡ false)) }
+pub fn is_history<E: Entries>(day: u32, history: &E) -> bool
+    ensures { result ≡ history_right day (length (E.entries history.now)) (E.entries history.now) }
 {
-    if ENTRIES < count || (day as usize) < count {
-        return Err(Refusal::OutOfRange);
-    }
-    let entries = &history[..count];
-    if are_entries(entries) {
-        Ok(entries)
-    } else {
-        Err(Refusal::OutOfRange)
-    }
+    let count = history.count();
+    count <= ENTRIES && count <= day as usize && are_entries(history)
 }
 
 // The search for the last three real readings on days of the gas day's type. (The form of document 01: one loop that yields what is found
 // by `break`.)
-pub fn search(calendar: &Calendar, entries: &[Entry]) -> Found
-    requires { (length entries.now ≤ calendar.now.day) × (every entry_right entries.now ≡ true) }
-    ensures { result ≡ found_in calendar.now.holidays.now calendar.now.day (length entries.now) (dated calendar.now.day entries.now) }
+pub fn search<E: Entries>(calendar: &Calendar, history: &E) -> Found
+    requires { (length (E.entries history.now) ≤ calendar.now.day) × (every entry_right (E.entries history.now) ≡ true) }
+    ensures { result ≡ found_in calendar.now.holidays.now calendar.now.day (length (E.entries history.now)) (dated calendar.now.day (E.entries history.now)) }
 {
+    let count = history.count();
     let wanted = calendar.day_type();
     let mut sum = 0;
     let mut matches = 0;
     let mut real = false;
     let mut looked = 0;
     loop {
-        if matches == MATCHES || looked == entries.len() {
+        if matches == MATCHES || looked == count {
             break Found {
                 sum,
                 matches,
@@ -111,7 +126,7 @@ pub fn search(calendar: &Calendar, entries: &[Entry]) -> Found
                 real,
             };
         }
-        let reading = entries[looked].reading;
+        let reading = history.reading(looked);
         looked += 1;
         if let Reading::Real(kwh) = reading {
             real = true;

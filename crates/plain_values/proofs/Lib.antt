@@ -1,1 +1,1 @@
-pub mod Optional
+pub mod Spelled

@@ -1,11 +1,10 @@
 // Values that stand in lists of numbers: an optional amount, contracted flows, a history. What has no meaning becomes a value out of its range.
 #![tactic(auto)]
 
-ghost use Rattle.std.specs.Prelude.{◌≡◌, ◌≤◌, length, take};
-ghost use Rattle.history.specs.History.{ENTRIES};
+ghost use Rattle.std.specs.Prelude.{◌≡◌, length};
 ghost use Rattle.plain_values.specs.Lists.{amount_in, toll_in, factor_in, flows_in, reading_in, entries_in};
 
-use history::{ENTRIES, Entry, Reading};
+use history::{Entries, Reading};
 use supply::{Flows, LIMIT, THOUSAND, Toll};
 
 // An amount that may be missing.
@@ -66,18 +65,22 @@ fn reading_in(tag: u8, value: u64) -> Reading
     }
 }
 
-// The history that tags and values spell.
-pub fn history_in(tags: &[u8], values: &[u64]) -> [Entry; ENTRIES]
-    requires { (length tags.now ≤ ENTRIES) × (length tags.now ≡ length values.now) }
-    ensures { take (length tags.now) result ≡ entries_in tags.now values.now }
-{
-    let mut history = numbers::repeat(Entry {
-        reading: Reading::Nothing,
-    });
-    for i in 0..tags.len() {
-        history[i] = Entry {
-            reading: reading_in(tags[i], values[i]),
-        };
+// A history in two lists that the caller lends, as many values as tags: an entry is what its tag and value stand for.
+#[derive(Clone, Copy)]
+pub struct HistoryLists<'a> {
+    pub tags: &'a [u8],
+    pub values: &'a [u64],
+    pub ghost paired: { length tags.now ≡ length values.now },
+}
+
+impl<'a> Entries for HistoryLists<'a> {
+    ghost entries = { λ h. entries_in h.tags.now h.values.now };
+
+    fn count(&self) -> usize {
+        self.tags.len()
     }
-    history
+
+    fn reading(&self, i: usize) -> Reading {
+        reading_in(self.tags[i], self.values[i])
+    }
 }

@@ -26,9 +26,9 @@ ghost use Rattle.seatpomelo.specs.Settled.{settled, settles, value_or, number, s
 ghost use Rattle.plain_values.specs.Lists.{amount_in, flows_in, entries_in, entry_count};
 
 use calendar::DayType;
-use history::ENTRIES;
 use line::cells::LineEntry;
 use numbers::Refusal;
+use plain_values::HistoryLists;
 use revise::Revision;
 use type_1::{OtherToll, Toll34};
 use type_2::Year;
@@ -242,17 +242,16 @@ pub fn seatpomelo_telemetered(
 ) -> u8
     ensures { settled result (consumption.new ∷ looked_at.new ∷ []) ≡ settles estimate_numbers (telemetered day holidays.now (amount_in reading.now) (amount_in own.now) (flows_in toll yearly.now daily.now factor) (entry_count tags.now values.now) (entries_in tags.now values.now)) (consumption.old ∷ looked_at.old ∷ []) }
 {
-    if tags.len() != values.len() || ENTRIES < tags.len() {
+    if tags.len() != values.len() {
         return status(Err(Refusal::OutOfRange));
     }
-    let answer = telemetered::telemetered(
+    let answer = telemetered::consumption(
         day,
         holidays,
         plain_values::amount_in(reading),
         plain_values::amount_in(own),
         plain_values::flows_in(toll, yearly, daily, factor),
-        plain_values::history_in(tags, values),
-        tags.len(),
+        &HistoryLists { tags, values },
     );
     match answer {
         Ok(estimate) => {

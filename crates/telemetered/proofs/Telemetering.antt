@@ -2,19 +2,23 @@
 use mathlib.Core.Path.{◌≡◌, refl}
 use mathlib.Core.Bool.{Bool, true, false, not}
 use mathlib.Core.List.{List, [], ◌∷◌}
-use Prim.Native.Nat.{ℕ, ◌≤◌}
+use Prim.Native.Nat.{ℕ, ◌≤◌, ◌<◌}
 use lib.Dec.{leb, eqb, eqb-suc-zero}
 use lib.ListN.{length, take}
-use borrow.Author.Tests.{leb-true}
+use lib.Seq.{take_all}
+use native.Mathlib.Omega.{arith}
+use borrow.Author.Tests.{leb-true, lt-leb}
 use Rattle.numbers.specs.Nearest.{nearest}
 use Rattle.numbers.specs.Sums.{pick}
 use Rattle.numbers.specs.Lists.{both, every}
 use Rattle.numbers.proofs.Lists.{both_fst, both_snd}
-use Rattle.numbers.specs.Refusals.{NO_BASIS}
-use Rattle.calendar.specs.Answers.{refused, given}
+use Rattle.numbers.specs.Refusals.{OUT_OF_RANGE, NO_BASIS}
+use Rattle.calendar.specs.Answers.{refused, given, tested}
+use Rattle.numbers.proofs.Sums.{cases}
+use mathlib.Core.Logic.{⊎_elim}
 use Rattle.history.specs.History.{ENTRIES, Dated, RealReading, entry_right, history_right, last_three, sum_of, mean_value, looked_at, is_empty, is_new}
 use Rattle.history.specs.Search.{found_in}
-use Rattle.telemetered.specs.Telemetered.{with_basis, from_history, from_found, first_of}
+use Rattle.telemetered.specs.Telemetered.{with_basis, from_history, from_found, first_of, values_right, telemetered}
 use Rattle.supply.specs.NewConsumer.{new_consumption}
 use Rattle.std.specs.Prelude.{Option, None, Some}
 use Rattle.std.specs.Option.{option_or}
@@ -49,3 +53,17 @@ found_answer hs d f n xs = go (last_three hs d xs) (is_new xs)
     go [] true = unfold looked_at in refl
     go [] false = refl
     go (m ∷ ms) new = rw (eqb-suc-zero (length ms)) (unfold mean_value in refl)
+
+-- ---- two histories with the same entries that count give the same answer, and one that is too long is refused
+
+module _ (d : ℕ) (hs : List ℕ) (reading own : Option ℕ) (f : Flows) (n : ℕ) where
+  pub same_answer : (es fs : List Entry) → take n es ≡ take n fs → telemetered d hs reading own f n es ≡ telemetered d hs reading own f n fs
+  unfolding telemetered history_right
+  same_answer es fs e = rw e
+
+  pub too_long : (es : List Entry) → ENTRIES < n → telemetered d hs reading own f n es ≡ refused OUT_OF_RANGE
+  unfolding telemetered history_right tested
+  too_long es l = rw (lt-leb n ENTRIES l) (⊎_elim (λ e. rw e) (λ e. rw e) (cases (values_right d hs reading own f)))
+
+  pub counted : (es : List Entry) → length (take n es) ≡ n → telemetered d hs reading own f (length (take n es)) (take n es) ≡ telemetered d hs reading own f n es
+  counted es e = rw e (same_answer (take n es) es (take_all n (take n es) (omega (arith, e))))

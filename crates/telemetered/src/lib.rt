@@ -1,14 +1,14 @@
 // Telemetered points: the reading, the user's own value, the mean of the last three readings, or a new consumer's flow.
 #![tactic(auto)]
 
-ghost use Rattle.std.specs.Prelude.{◌≡◌, true};
+ghost use Rattle.std.specs.Prelude.{◌≡◌, true, length};
 ghost use Rattle.numbers.specs.Lists.{both};
 ghost use Rattle.calendar.specs.Answers.{answer_of};
 ghost use Rattle.supply.specs.Amounts.{amount_right, flows_right};
 ghost use Rattle.telemetered.specs.Telemetered.{from_found, telemetered};
 
 use calendar::Calendar;
-use history::{ENTRIES, Entry, Found};
+use history::{ENTRIES, Entries, Entry, Found};
 use numbers::Refusal;
 use supply::Flows;
 
@@ -44,9 +44,31 @@ fn are_amounts(reading: Option<u64>, own: Option<u64>, flows: Flows) -> bool
     supply::is_amount(reading) && supply::is_amount(own) && supply::are_flows(flows)
 }
 
-// The consumption of a telemetered supply point on a gas day, given its reading and the user's own value, if there are any. (The history
-// goes by value: the form of document 01.)
+// The consumption of a telemetered supply point on a gas day, given its reading and the user's own value, if there are any, and its history,
+// however that is held.
 #[tactic(auto, unfolding(crate::specs::Telemetered::telemetered, crate::specs::Telemetered::values_right, calendar::specs::Answers::tested))]
+pub fn consumption<E: Entries>(
+    day: u32,
+    holidays: &[u32],
+    reading: Option<u64>,
+    own: Option<u64>,
+    flows: Flows,
+    history: &E,
+) -> Result<Estimate, Refusal>
+    ensures { answer_of result ≡ telemetered day holidays.now reading own flows (length (E.entries history.now)) (E.entries history.now) }
+{
+    let calendar = Calendar::of(day, holidays)?;
+    if !are_amounts(reading, own, flows) || !history::is_history(day, history) {
+        return Err(Refusal::OutOfRange);
+    }
+    if let Some(kwh) = reading.or(own) {
+        return Ok(Estimate { kwh, looked: 0 });
+    }
+    from_found(history::search(&calendar, history), flows)
+}
+
+// The same with the history by value. (The form of document 01: 400 entries, of which the first `count` are looked at.)
+#[tactic(auto)]
 pub fn telemetered(
     day: u32,
     holidays: &[u32],
@@ -58,13 +80,8 @@ pub fn telemetered(
 ) -> Result<Estimate, Refusal>
     ensures { answer_of result ≡ telemetered day holidays.now reading own flows count history }
 {
-    let calendar = Calendar::of(day, holidays)?;
-    if !are_amounts(reading, own, flows) {
+    if ENTRIES < count {
         return Err(Refusal::OutOfRange);
     }
-    let entries = history::counted_entries(day, &history, count)?;
-    if let Some(kwh) = reading.or(own) {
-        return Ok(Estimate { kwh, looked: 0 });
-    }
-    from_found(history::search(&calendar, entries), flows)
+    consumption(day, holidays, reading, own, flows, &&history[..count])
 }

@@ -6,9 +6,9 @@ use Rattle.history.proofs.Searching.{Going}
 use Rattle.history.proofs.search.Given as goal
 
 abbrev pub invariant-loop-matches : goal.invariant-loop-matches
-invariant-loop-matches l =
-    Going l.calendar.holidays.now l.calendar.day l.entries l.sum l.matches l.real l.looked
+invariant-loop-matches g l =
+    Going l.calendar.holidays.now l.calendar.day (g.E.Entries.entries l.history) l.sum l.matches l.real l.looked
     × (l.wanted ≡ day_type l.calendar.holidays.now l.calendar.day)
 
 abbrev pub decreases-loop-matches : goal.decreases-loop-matches
-decreases-loop-matches l = length l.entries - l.looked
+decreases-loop-matches g l = length (g.E.Entries.entries l.history) - l.looked
