@@ -37,5 +37,5 @@ pub fn sizes_of(amounts: &[i64], sizes: &mut [u64])
 pub fn all_limited(amounts: &[i64]) -> bool
     ensures { result ≡ every (no_more AMOUNT) amounts.now }
 {
-    amounts.iter().all(|x| x.unsigned_abs() <= AMOUNT)
+    numbers::all_limited(amounts, AMOUNT)
 }

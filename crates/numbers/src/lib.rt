@@ -103,10 +103,16 @@ pub fn with_sign(negative: bool, size: u64) -> i64
 
 // Whether x is at most `limit` in size. Any x will do, also the least of 64 bits.
 pub fn size_at_most(x: i64, limit: u64) -> bool
-    requires { limit ≤ SAFE }
     ensures { result ≡ leb (nat_abs x) limit }
 {
     x.unsigned_abs() <= limit
+}
+
+// Whether every amount is at most `limit` in size.
+pub fn all_limited(xs: &[i64], limit: u64) -> bool
+    ensures { result ≡ every (λ x. leb (nat_abs x) limit) xs.now }
+{
+    xs.iter().all(|&x| size_at_most(x, limit))
 }
 
 // The sum of two amounts. (A call, so that a proof above reads the sum and not its 64 bits.)

@@ -279,13 +279,6 @@ sum_fits z e =
 pub entering_sum : (d : PointDay) → Sized d → taken d ≡ true → d.allotted ≡ false → all_whole (read d).users ≡ pos (all_offtake (read d).users)
 entering_sum d z t e = bare_all (read d).users ((taken_sound d z (taken_facts d t)).entering (unfold read in e))
 
--- two answers that decide the same
-same_answer : {P : Type 0} (r q : Bool) → Decides r P → Decides q P → r ≡ q
-same_answer true true h k = refl
-same_answer true false h k = absurd (k.no refl (h.yes refl))
-same_answer false true h k = absurd (h.no refl (k.yes refl))
-same_answer false false h k = refl
-
 -- refusal 12, on a column of whole amounts
 sizes_decided : (xs : List ℤ) → Decides (every (no_more AMOUNT) xs) (From 0 (neg_ℤ (pos AMOUNT)) (pos AMOUNT) xs)
 sizes_decided xs = record {
@@ -293,9 +286,6 @@ sizes_decided xs = record {
   no = λ t h. true≢false
       (sym (at_every (no_more AMOUNT) (pos 0) xs (λ i l. le-leb (nat_abs (atZ xs i)) AMOUNT (between_size (atZ xs i) (h i (omega arith) l)))) ∙ t);
 }
-
-pub any_large_by : (xs : List ℤ) (r : Bool) → Decides r (From 0 (neg_ℤ (pos AMOUNT)) (pos AMOUNT) xs) → not r ≡ any_large xs
-any_large_by xs r h = ap not (same_answer r (every (no_more AMOUNT) xs) h (sizes_decided xs))
 
 -- refusal 12
 module _ (d : PointDay) (z : Sized d) (l : Summable d) (xs : List ℤ) (e : xs ≡ table (wholes_of d) d.count) where

@@ -17,12 +17,8 @@ use numbers::Refusal;
 use point_day::{AMOUNT, KINDS, LIMIT, Measurement, PointDay, Stage, USERS};
 use state::amounts::Amounts;
 
-// The greatest sum, and the least and the greatest whole amount.
+// The greatest sum.
 const SUM: i64 = LIMIT as i64;
-
-const LEAST: i64 = 0 - (AMOUNT as i64);
-
-const GREATEST: i64 = AMOUNT as i64;
 
 // Whether the measurement is in range; none is. (So it is no method of `Measurement`.)
 fn measurement_right(measurement: Option<Measurement>) -> bool
@@ -279,5 +275,5 @@ pub fn test_day(day: &PointDay) -> Result<State, Refusal>
 pub fn wholes_too_large(wholes: &[i64]) -> bool
     ensures { result ≡ any_large wholes.now }
 {
-    !numbers::all_between(wholes, 0, LEAST, GREATEST)
+    !numbers::all_limited(wholes, AMOUNT)
 }
