@@ -3,12 +3,19 @@
 #![tactic(auto)]
 
 ghost use Rattle.std.specs.Prelude.{◌≤◌, length};
+ghost use Rattle.proration.specs.Proration.{PARTIES};
 
 use console::input::{Input, Malformed, Number, at_most};
 use console::{Program, Stop};
 use proration::PARTIES;
 use std::io;
 use std::io::{Read, Write};
+use wire::TextBuffer;
+
+// The bytes of a share, at most, and of what stands after it.
+const SHARE_BYTES: usize = 21;
+
+const LINE_ROOM: usize = SHARE_BYTES * PARTIES;
 
 // The next numbers of u32, as many as the list has places.
 fn read_numbers(input: &mut Input, numbers: &mut [u64]) -> Result<(), Malformed>
@@ -20,15 +27,24 @@ fn read_numbers(input: &mut Input, numbers: &mut [u64]) -> Result<(), Malformed>
     Ok(())
 }
 
-// The shares, if there are any, on a line.
-fn print_line<W: Write>(out: &mut W, shares: &[i64]) -> io::Result<()> {
-    let Some((last, before)) = shares.split_last() else {
+// The shares, if there are any, on a line, which is written whole.
+#[tactic(auto, using(wire::proofs::Text::written_length))]
+fn print_line<W: Write>(out: &mut W, shares: &[i64]) -> io::Result<()>
+    requires { length shares.now ≤ PARTIES }
+{
+    let Some((&last, before)) = shares.split_last() else {
         return Ok(());
     };
-    for share in before {
-        write!(out, "{share} ")?;
+    let mut room = numbers::repeat::<_, LINE_ROOM>(0);
+    let mut text = TextBuffer::new(&mut room);
+    for &share in before {
+        text.push_decimal(share);
+        text.push(b" ");
     }
-    writeln!(out, "{last}")
+    text.push_decimal(last);
+    text.push(b"\n");
+    let n = text.len;
+    out.write_all(&room[..n])
 }
 
 // The split of an amount over the next weights and keys: its shares are printed. What is out of range is malformed.
@@ -40,6 +56,7 @@ fn run_split<W: Write>(
     keys: &mut [u64],
     shares: &mut [i64],
 ) -> Result<(), Stop>
+    requires { length shares.old ≤ PARTIES }
     ensures { length input.new ≤ length input.old }
 {
     read_numbers(input, weights)?;
