@@ -29,8 +29,8 @@ fn hints_of(slots: &[u16]) -> [u8; HINTS]
     ensures { length result ≡ HINTS }
 {
     let mut hints = [0; HINTS];
-    for i in 0..slots.len() {
-        hints[usize::from(slots[i]) % HINTS] = i as u8;
+    for (i, &slot) in slots.iter().enumerate() {
+        hints[usize::from(slot) % HINTS] = i as u8;
     }
     hints
 }
