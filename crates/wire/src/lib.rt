@@ -7,7 +7,7 @@ ghost use Rattle.wire.specs.Text.{decimal, Added};
 
 use itoa::Buffer;
 
-// The number of N bytes from place i on, little-endian.
+// The number of N bytes from place i on, little-endian. (By places: the proof goes by them, and a loop over the reversed bytes has none.)
 pub fn read<const N: usize>(s: &[u8], i: usize) -> u64
     requires { (N ≤ 8) × (i + N ≤ length s.now) }
     ensures { (result ≡ little_endian N s.now i) × (result < 256 ^ N) }
