@@ -41,11 +41,10 @@ fn stage_name(stage: Stage) -> &'static str {
 fn print_measurement<W: Write>(out: &mut W, measurement: Option<Measurement>) -> io::Result<()>
     requires { measurement_right measurement ≡ true }
 {
-    if measurement.is_none() {
-        return writeln!(out, " unmeasured");
+    match measurement {
+        None => writeln!(out, " unmeasured"),
+        Some(_) => writeln!(out, " net {}", state::net(measurement)),
     }
-    let net = state::net(measurement);
-    writeln!(out, " net {net}")
 }
 
 // A user's number, and consumption, losses and balance of each kind; then the revision.
@@ -95,8 +94,7 @@ fn print_inventory<W: Write>(out: &mut W, day: PointDay, lent: &mut [i64]) -> io
         Ok(rows) => write!(out, "inventory {rows}")?,
         Err(refusal) => output::refusal(out, refusal)?,
     }
-    output::amounts(out, lent)?;
-    writeln!(out)
+    output::amounts(out, lent)
 }
 
 fn print_report<W: Write>(out: &mut W, file: &[u8]) -> io::Result<()> {

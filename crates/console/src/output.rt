@@ -4,12 +4,12 @@ use std::fmt::Display;
 use std::io;
 use std::io::Write;
 
-// Each with a space before it.
+// Each with a space before it, to the end of the line.
 pub fn amounts<W: Write>(out: &mut W, xs: &[i64]) -> io::Result<()> {
     for x in xs {
         write!(out, " {x}")?;
     }
-    Ok(())
+    writeln!(out)
 }
 
 pub fn malformed<W: Write>(out: &mut W) -> io::Result<()> {

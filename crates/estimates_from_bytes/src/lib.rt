@@ -191,8 +191,7 @@ fn print_spread<W: Write>(
         Ok(()) => write!(out, "spread")?,
         Err(refusal) => output::refusal(out, refusal)?,
     }
-    output::amounts(out, lent)?;
-    writeln!(out)
+    output::amounts(out, lent)
 }
 
 fn spread<W: Write>(out: &mut W, input: &mut Input) -> Result<(), Stop>
