@@ -77,10 +77,7 @@ fn tests(day: &PointDay, tolerance: u64, column: &mut [i64]) -> Result<Revision,
 fn put_revisions(day: PointDay, revision: [i64; USERS]) -> PointDay
     ensures { result ≡ set_revision revision day }
 {
-    PointDay {
-        revision,
-        ..day
-    }
+    PointDay { revision, ..day }
 }
 
 // Revise by any tolerance.
