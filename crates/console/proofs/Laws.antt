@@ -10,7 +10,7 @@ use contract.Lifetimes.{Lfts}
 use denote.RattleType.{RattleType}
 use denote.Param.Laws.{Laws, IsCopy}
 use mir.Syntax.{Dict}
-use Rattle.core.specs.declared.clone.Clone.{Ghosts as CloneGhosts}
+use Rattle.std.specs.declared.clone.Clone.{Ghosts as CloneGhosts}
 use Rattle.console.specs.declared.input.Number.{Ghosts as NumberGhosts}
 use Rattle.std.specs.Borrow.{MutBor}
 use Rattle.std.specs.Prelude.{Result, Ok, Err, IsOk, IsErr, IfOk, OnOk, OnErr, ◌↔◌}
