@@ -1,9 +1,7 @@
 -- What is left after reading, over several steps. Assumes nothing.
-use mathlib.Core.Path.{refl, ap, ◌∙◌}
 use mathlib.Core.List.{List}
-use Prim.Native.Nat.{ℕ, ◌+◌, ◌-◌}
+use Prim.Native.Nat.{ℕ}
 use native.Mathlib.Omega.{arith}
-use lib.ListN.{drop, length}
 use Rattle.std.proofs.lemmas.List.{drop-drop}
 use Rattle.console.specs.Input.{Onward}
 
