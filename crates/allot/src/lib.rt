@@ -57,7 +57,7 @@ fn cells_test<'a>(
 }
 
 // The tests of allot on a taken point-day with these cells and revisions, of which `state` is the test. `cells`, zeros before, are then
-// the balances.
+// the balances. (The arrays come one by one, as a point-day by value and one in plain numbers have them.)
 pub fn allot_test<'a>(
     state: &State,
     consumption: &'a [i64; CELLS],

@@ -121,7 +121,7 @@ impl<'a> Calendar<'a> {
 }
 
 impl DayType {
-    // Whether it is that of a working day.
+    // Whether it is that of a working day. (A name over the derived equality, for calls that ask just this.)
     pub fn is_working(self) -> bool
         ensures { result ≡ is_working_type self }
     {

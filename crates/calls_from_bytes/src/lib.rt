@@ -140,6 +140,7 @@ impl Calls {
         self.settle(out, "line", outcome)
     }
 
+    // (Beside `line`: the two differ in the call and in its name alone, and each is three lines.)
     fn edit<W: Write>(&mut self, out: &mut W, input: &mut Input) -> Result<(), Stop>
         ensures { length input.new ≤ length input.old }
     {

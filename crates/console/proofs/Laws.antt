@@ -21,6 +21,7 @@ use Rattle.wire.specs.Bytes.{little_endian, signed_64}
 use Rattle.console.specs.Input.{spelled_in}
 use Rattle.console.proofs.input.U16Number.read.Reads as read_u16
 use Rattle.console.proofs.input.Input.fill.Reads as fill
+use Rattle.console.proofs.input.at_most.Reads as at_most
 
 absent : {n : ℕ} → suc (suc n) ≤ suc n → ⊥
 absent h = absurd (omega arith)
@@ -61,6 +62,10 @@ stays_failed e f = refl
 pub no_meaning : (r : Result ℕ Malformed) → (IsOk r ↔ (2 ≤ 1)) → IsErr r
 no_meaning (Ok x) h = absurd (absent (h.0 (refl {a = true})))
 no_meaning (Err e) h = refl {a = true}
+
+-- and so by the contract of `at_most`, as the toolchain reads it for a caller
+pub at_most_refuses : (κs : Lfts 0) (r : Result ℕ Malformed) → at_most.Learnt κs (2, (1, tt)) r (2, (1, tt)) → IsErr r
+at_most_refuses κs r h = no_meaning r h.0
 
 -- the clauses of `Input::fill`: a list, of numbers of n bytes that `spelled` gives, filled from `before`, which leaves `after`
 pub record Fills {A U : Type 0} (n : ℕ) (spelled : List ℕ → A) (nought : A) (before : List ℕ) (r : Result U Malformed) (after : List ℕ) (old new : List A) : Type 0 where

@@ -59,7 +59,8 @@ pub fn read_full<R: Read>(input: &mut R, room: &mut [u8]) -> io::Result<usize>
     Ok(done)
 }
 
-// The operations one after the other, until nothing is left. What is longer than a program takes is malformed, and none of it is run.
+// The operations one after the other, until nothing is left (a `while`: it counts no index). What is longer than a program takes is malformed,
+// and none of it is run.
 fn run_bytes<P: Program, W: Write>(program: &mut P, out: &mut W, bytes: &[u8]) -> Result<(), Stop> {
     if MOST_INPUT < bytes.len() {
         return Err(Stop::Malformed);

@@ -15,7 +15,8 @@ use lines::Entering;
 use numbers::Refusal;
 
 impl Entering {
-    // Section i of the file, of whose sections at most `limit` are taken: a user and its lines.
+    // Section i of the file, of whose sections at most `limit` are taken: a user and its lines. (A parameter, as a mark of another file may have
+    // another limit; of this one it is USERS.)
     fn section(&mut self, file: &DayFile, i: usize, limit: usize) -> Result<(), Refusal>
         requires { (i < pair_count file.now.bytes.now) × (limit ≡ USERS) × Holds i self.old }
         ensures unless_refused { UnlessRefused result (Holds (i + 1) self.new) }

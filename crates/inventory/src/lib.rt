@@ -17,7 +17,8 @@ use point_day::{CELLS, KINDS, PointDay};
 use row::ROW;
 use taken::State;
 
-// The inventory of a taken point-day with these cells, of which `state` is the test, into a lent buffer: the count of its rows.
+// The inventory of a taken point-day with these cells, of which `state` is the test, into a lent buffer: the count of its rows. (The arrays
+// come one by one, as a point-day by value and one in plain numbers have them.)
 pub fn list_rows<'a>(
     state: &State,
     consumption: &'a [i64; CELLS],

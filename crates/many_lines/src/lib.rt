@@ -23,7 +23,8 @@ use plain_day::writes;
 // used, so 0 does where there is none.)
 const HINTS: usize = 1024;
 
-// Slots by the remainder of the user number; of two users with the same remainder the later one is hinted at.
+// Slots by the remainder of the user number; of two users with the same remainder the later one is hinted at. (The cast
+// is one number of a table of bytes: a slot is below 64.)
 fn hints_of(slots: &[u16]) -> [u8; HINTS]
     requires { length slots.now ≤ USERS }
     ensures { length result ≡ HINTS }

@@ -65,7 +65,7 @@ fn settle_count(answer: Result<usize, Refusal>, out: &mut u64) -> u8
     settle(answer.map(|count| count as u64), out)
 }
 
-// A day type's number.
+// A day type's number. (A name over the cast, with a contract: the cast promises nothing by itself.)
 fn type_number(day_type: DayType) -> u64
     ensures { result ∷ [] ≡ type_number day_type }
 {

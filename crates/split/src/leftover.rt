@@ -179,7 +179,8 @@ fn serve_cut(parties: &Parties, x: u64, left: u64, shares: &mut [u64])
     }
 }
 
-// One unit more to each party with fewer than `left` before it.
+// One unit more to each party with fewer than `left` before it. (That shares are at most LARGEST_AMOUNT is asked by each function and is no
+// field of a type: it ends with the call that adds to them.)
 pub fn serve(parties: &Parties, left: u64, shares: &mut [u64])
     requires room { length parties.now.rems.now ≤ length shares.old }
     requires by_index { (i : ℕ) → i < length parties.now.rems.now → at shares.old i ≤ LARGEST_AMOUNT }

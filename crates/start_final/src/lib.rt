@@ -15,7 +15,7 @@ use numbers::Refusal;
 use point_day::{Accepted, Outcome, PointDay, Stage};
 use taken::State;
 
-// Whether the stage is the last.
+// Whether the stage is the last. (A name over the derived equality, with a contract that the calls' proofs read.)
 fn is_last(stage: Stage) -> bool
     ensures { result ≡ last_stage stage }
 {

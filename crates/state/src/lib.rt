@@ -12,7 +12,7 @@ ghost use Rattle.state.specs.Places.{SlotOf, ROOM, LowSlot, SizedSlot, offtake_a
 
 use point_day::{AMOUNT, CELLS, KINDS, LIMIT, Measurement, Stage, USERS};
 
-// The slot of the user, if it stands among these.
+// The slot of the user, if it stands among these. (A `for`: what `position` finds the search does not carry to the result.)
 pub fn slot_of(users: &[u16], user: u16) -> Option<usize>
     ensures { SlotOf user users.now result }
 {
@@ -41,7 +41,7 @@ pub fn user_low(consumption: &[i64; CELLS], losses: &[i64; CELLS], slot: usize) 
     0 <= bits && bits <= LOW
 }
 
-// Consumption and losses of a cell.
+// Consumption and losses of a cell. (No one function with `cell_sum`: the two add other columns, in other ranges.)
 fn cell_offtake(consumption: &[i64; CELLS], losses: &[i64; CELLS], i: usize) -> i64
     requires { (i < CELLS) × Within ROOM (atZ consumption.now i) × Within ROOM (atZ losses.now i) }
     ensures { result ≡ atZ consumption.now i +ℤ atZ losses.now i }
@@ -109,7 +109,7 @@ pub fn is_measured(measurement: Option<Measurement>) -> bool
     measurement.is_some()
 }
 
-// Whether the stage is provisional.
+// Whether the stage is provisional. (A name over the derived equality, with a contract that the calls' proofs read.)
 pub fn is_provisional(stage: Stage) -> bool
     ensures { result ≡ provisional stage }
 {
