@@ -40,6 +40,18 @@ impl LineEntry {
         numbers::nearest(self.consumption * self.coefficient, PARTS)
     }
 
+    // The losses that the line adds, unless they and its consumption would take `offtake`, all consumption and losses so far, past the limit.
+    pub fn losses_within(self, offtake: u64) -> Result<u64, Refusal>
+        requires { (self.consumption ≤ LIMIT) × (self.coefficient ≤ COEFFICIENT) × (offtake ≤ LIMIT) }
+        ensures { result ≡ line_on offtake self.consumption self.coefficient }
+    {
+        let added = self.losses();
+        if LIMIT < offtake + (self.consumption + added) {
+            return Err(Refusal::AboveLimit);
+        }
+        Ok(added)
+    }
+
     // The cell of the line's kind, of the user of a slot.
     pub fn place(self, slot: usize) -> usize
         requires { (slot < USERS) × (1 ≤ self.kind) × (self.kind ≤ KINDS) }
@@ -50,8 +62,7 @@ impl LineEntry {
 }
 
 // A line at its cell of the user of a slot, on lent arrays; `offtake` is all their consumption and losses so far. The answer is the losses
-// that it added. (The losses and the limit are worked out as in `slot_test`: one method for both, which answers a Result, made each line of a
-// day file 0.7 ns slower, and the file 1.26 times plain Rust instead of 1.07.)
+// that it added.
 pub fn line_cell(
     consumption: &mut [i64; CELLS],
     losses: &mut [i64; CELLS],
@@ -65,10 +76,7 @@ pub fn line_cell(
     ensures consumption_after { consumption.new ≡ pick (past_limit offtake entry.consumption entry.coefficient) consumption.old (more (place slot entry.kind) entry.consumption consumption.old) }
     ensures losses_after { losses.new ≡ pick (past_limit offtake entry.consumption entry.coefficient) losses.old (more (place slot entry.kind) (line_losses entry.consumption entry.coefficient) losses.old) }
 {
-    let added = entry.losses();
-    if LIMIT < offtake + (entry.consumption + added) {
-        return Err(Refusal::AboveLimit);
-    }
+    let added = entry.losses_within(offtake)?;
     let i = entry.place(slot);
     state::add_at(consumption, i, entry.consumption);
     state::add_at(losses, i, added);

@@ -17,7 +17,7 @@ ghost use Rattle.line.specs.Lined.{with_cells, Tested, Stands};
 
 use cells::LineEntry;
 use numbers::Refusal;
-use point_day::{Accepted, Answer, LIMIT, Outcome, PointDay};
+use point_day::{Accepted, Answer, Outcome, PointDay};
 use taken::State;
 
 // What a line that passes its tests writes: the place of its cell, and the losses that it adds.
@@ -39,10 +39,7 @@ pub fn slot_test(slot: Option<usize>, offtake: u64, entry: LineEntry) -> Result<
     let Some(slot) = slot else {
         return Err(Refusal::NotJoined);
     };
-    let added = entry.losses();
-    if LIMIT < offtake + (entry.consumption + added) {
-        return Err(Refusal::AboveLimit);
-    }
+    let added = entry.losses_within(offtake)?;
     Ok(LineEffect {
         place: entry.place(slot),
         added,
