@@ -108,7 +108,9 @@ fn entered(end: Result<(), Refusal>, accepted: usize, losses: u64) -> LinesEnter
     }
 }
 
-// Line after line until one is refused, on a taken point-day that is entering, and of which these users have joined.
+// Line after line until one is refused, on a taken point-day that is entering, and of which these users have joined. (A call of its own: its
+// loop has the registers to itself.)
+#[inline(never)]
 fn enter_lines<'a>(
     day: &mut [i64],
     joined: &'a [u16],

@@ -46,6 +46,10 @@ pub both_and : (p q r : Bool) → both p (both q r) ≡ both (p && q) r
 both_and true q r = refl
 both_and false q r = refl
 
+pub and_both : (p q r : Bool) → (both p q && r) ≡ both p (q && r)
+and_both true q r = refl
+and_both false q r = refl
+
 pub either_end : (p : Bool) → either p true ≡ true
 either_end true = refl
 either_end false = refl
@@ -142,6 +146,13 @@ module _ {A : Type 0} where
   unfolding every
   every_append p [] ys e f = f
   every_append p (x ∷ xs) ys e f = both_true {p = p x} (both_fst (p x) _ e) (every_append p xs ys (both_snd (p x) _ e) f)
+
+  -- one element more
+  pub every_more : (p : A → Bool) (d : A) (xs : List A) (i : ℕ) → i < length xs → (every p (take i xs) && p (get_or xs i d)) ≡ every p (take (suc i) xs)
+  unfolding every
+  every_more p d [] i l = absurd (omega arith)
+  every_more p d (x ∷ xs) zero l = sym (both_end (p x))
+  every_more p d (x ∷ xs) (suc i) l = and_both (p x) _ _ ∙ ap (both (p x)) (every_more p d xs i (omega arith))
 
 -- ---- distinct numbers
 

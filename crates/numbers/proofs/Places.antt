@@ -7,7 +7,7 @@ use native.Mathlib.Omega.{arith}
 use native.Mathlib.Numerals.{add-one}
 use lib.ListN.{length, get_or, take, drop, length-drop, drop_of_length-le}
 use Rattle.std.proofs.lemmas.List.{take_rest}
-use lib.Seq.{get_or-drop, drop-cons}
+use lib.Seq.{get_or-take, get_or-drop, length-take-le, drop-cons}
 use Rattle.numbers.specs.Lists.{both, every}
 use Rattle.numbers.proofs.Lists.{both_fst, both_snd, both_true, both_none}
 
@@ -28,6 +28,14 @@ module _ {A : Type 0} (p : A → Bool) (x : A) where
   one_fails [] i l e = absurd (omega arith)
   one_fails (y ∷ xs) zero l e = rw e
   one_fails (y ∷ xs) (suc i) l e = rw (one_fails xs i (omega arith) e) (both_none (p y))
+
+  -- ---- up to a place
+
+  pub every_until : (n : ℕ) (xs : List A) → n ≤ length xs → every p (take n xs) ≡ true → (i : ℕ) → i < n → p (get_or xs i x) ≡ true
+  every_until n xs l e i m = ap p (sym (get_or-take n xs i x m)) ∙ every_at (take n xs) e i (rw (length-take-le n xs l) m)
+
+  pub until_every : (n : ℕ) (xs : List A) → n ≤ length xs → ((i : ℕ) → i < n → p (get_or xs i x) ≡ true) → every p (take n xs) ≡ true
+  until_every n xs l h = at_every (take n xs) (λ i m. let q : i < n = rw (length-take-le n xs l) at m in ap p (get_or-take n xs i x q) ∙ h i q)
 
   -- ---- from a place on
 

@@ -108,11 +108,15 @@ pub fn size_at_most(x: i64, limit: u64) -> bool
     x.unsigned_abs() <= limit
 }
 
-// Whether every amount is at most `limit` in size.
+// Whether every amount is at most `limit` in size. (A loop without an early end, which is faster.)
 pub fn all_limited(xs: &[i64], limit: u64) -> bool
     ensures { result ≡ every (λ x. leb (nat_abs x) limit) xs.now }
 {
-    xs.iter().all(|&x| size_at_most(x, limit))
+    let mut limited = true;
+    for &x in xs {
+        limited &= size_at_most(x, limit);
+    }
+    limited
 }
 
 // The sum of two amounts. (A call, so that a proof above reads the sum and not its 64 bits.)

@@ -76,6 +76,8 @@ fn head_readable(xs: &[i64]) -> bool
         && up_to(xs[COUNT_AT], USERS as u64)
 }
 
+// (A call of its own, so that a list that is not readable is refused before there is room for a state.)
+#[inline(never)]
 pub fn is_readable(xs: &[i64]) -> bool
     ensures { result ≡ is_readable xs.now }
 {
@@ -85,7 +87,9 @@ pub fn is_readable(xs: &[i64]) -> bool
     head_readable(xs) && all_up_to(&xs[USERS_AT..CONSUMPTION_AT], LAST_NUMBER)
 }
 
-// The test of the point-day that is read from plain numbers, with these user numbers.
+// The test of the point-day that is read from plain numbers, with these user numbers. (A call of its own: its loops have the registers to
+// themselves.)
+#[inline(never)]
 fn test_read(day: &[i64], users: [u16; USERS]) -> Result<State, Refusal>
     requires { (length day.now ≡ LENGTH) × (users ≡ users_in day.now) }
     ensures { StateOf (day_in day.now) result }

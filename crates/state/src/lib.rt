@@ -10,7 +10,7 @@ ghost use Rattle.point_day.specs.Limits.{USERS, CELLS, LIMIT};
 ghost use Rattle.point_day.specs.Day.{is_measured, net_of, emission_right, measurement_right, provisional};
 ghost use Rattle.state.specs.Places.{SlotOf, ROOM, LowSlot, SizedSlot, offtake_at, balance_at, more};
 
-use point_day::{AMOUNT, CELLS, KINDS, LIMIT, Measurement, Stage, USERS};
+use point_day::{CELLS, KINDS, LIMIT, Measurement, Stage, USERS};
 
 // The slot of the user, if it stands among these. (A `for`: what `position` finds the search does not carry to the result.)
 pub fn slot_of(users: &[u16], user: u16) -> Option<usize>
@@ -59,19 +59,6 @@ pub fn user_offtake(consumption: &[i64; CELLS], losses: &[i64; CELLS], slot: usi
         sum += cell_offtake(consumption, losses, KINDS * slot + k);
     }
     sum
-}
-
-// Whether a user's balances and its revision are at most 2,000,000,000 in size.
-pub fn user_sized(balance: &[i64; CELLS], revision: &[i64; USERS], slot: usize) -> bool
-    requires { slot < USERS }
-    ensures { Decides result (SizedSlot balance.now revision.now slot) }
-{
-    for k in 0..KINDS {
-        if AMOUNT < balance[KINDS * slot + k].unsigned_abs() {
-            return false;
-        }
-    }
-    revision[slot].unsigned_abs() <= AMOUNT
 }
 
 // A user's balances and revision.

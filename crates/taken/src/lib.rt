@@ -36,12 +36,12 @@ fn head_right(measurement: Option<Measurement>, n: usize, users: &[u16]) -> bool
     ensures { Decides result (Head measurement n users.now) }
 {
     n <= USERS
-        && user_numbers::all_zero(&users[n..])
+        && user_numbers::no_numbers(&users[n..])
         && user_numbers::numbers_right(&users[..n])
         && measurement_right(measurement)
 }
 
-// Whether the consumption and losses of each of n users are low. (Not one function with `all_sized`: each is one test of its own arrays.)
+// Whether the consumption and losses of each of n users are low.
 fn all_low(amounts: &Amounts, n: usize) -> bool
     requires { n ≤ USERS }
     ensures { Decides result ((s : ℕ) → s < n → LowSlot amounts.now.consumption.now amounts.now.losses.now s) }
@@ -111,12 +111,13 @@ fn all_sized(amounts: &Amounts, n: usize) -> bool
     requires { n ≤ USERS }
     ensures { Decides result ((s : ℕ) → s < n → SizedSlot amounts.now.balance.now amounts.now.revision.now s) }
 {
-    for s in 0..n {
-        if !state::user_sized(amounts.balance, amounts.revision, s) {
-            return false;
-        }
-    }
-    true
+    let Amounts {
+        balance,
+        revision,
+        ..
+    } = *amounts;
+    numbers::all_limited(&balance[..KINDS * n], AMOUNT)
+        && numbers::all_limited(&revision[..n], AMOUNT)
 }
 
 // Balances and revisions of n users, all in range, added to a column of consumption and losses.

@@ -10,8 +10,9 @@ pub fn numbers_right(users: &[u16]) -> bool
     !users.contains(&0) && numbers::distinct::are_distinct(users)
 }
 
-// Whether every number is 0: their bits are gathered, and tested once. (A loop without an early end, which is faster.)
-pub fn all_zero(users: &[u16]) -> bool
+// Whether no user number stands here: their bits are gathered, and tested once. (A loop without an early end, which is faster. Amounts have
+// `numbers::all_zero`: they are signed, and of another definition.)
+pub fn no_numbers(users: &[u16]) -> bool
     ensures { Decides result ((i : ℕ) → i < length users.now → get_or users.now i 0 ≡ 0) }
 {
     let mut bits: u16 = 0;

@@ -1,19 +1,26 @@
--- `taken::all_sized` decides: each user so far is in range. Assumes nothing.
-use mathlib.Core.Path.{refl}
-use native.Mathlib.Omega.{arith}
-use Rattle.numbers.proofs.Lists.{passed, true≢false}
-use Rattle.state.specs.Places.{SizedSlot}
+-- `taken::all_sized` decides. Assumes nothing.
+use Rattle.std.proofs.Common.{rules, ◌≡◌, sym, ◌∙◌, true, ◌*◌, ◌≤◌, length, arith}
+use Rattle.numbers.proofs.Lists.{true≢false}
+use Rattle.point_day.specs.Limits.{KINDS}
+use Rattle.taken.proofs.Sizes.{all_sized, balances_limited, revisions_limited}
 use Rattle.taken.proofs.all_sized.Goals as goal
 
-pub loop-s-preserved : goal.loop-s-preserved
-loop-s-preserved c =
-    let l = c.loop-s in
-    (omega arith, passed (SizedSlot _ _) 0 l.s l.invariant.1 (c.if-not-user_sized.ensures.yes refl))
-
-pub returns : goal.returns
-returns c =
-    let l = c.loop-s in
+pub returns-then-all_limited : goal.returns-then-all_limited
+returns-then-all_limited c =
+    let a = c.args.amounts.now in
+    let b : KINDS * c.args.n ≤ length a.balance.now = omega (arith, a.lengths.balance, c.requires) in
+    let r : c.args.n ≤ length a.revision.now = omega (arith, a.lengths.revision, c.requires) in
     record {
-      yes = λ e s m. l.invariant.1 s (omega arith) (omega arith);
-      no = λ e p. true≢false e;
+      yes = λ e. all_sized c.args.n _ _ b r (sym c.all_limited.ensures ∙ c.if-all_limited.true) (sym c.all_limited-then-all_limited.ensures ∙ e);
+      no = λ e h. true≢false (sym (revisions_limited c.args.n _ _ b r h) ∙ sym c.all_limited-then-all_limited.ensures ∙ e);
+    }
+
+pub returns-else-all_limited : goal.returns-else-all_limited
+returns-else-all_limited c =
+    let a = c.args.amounts.now in
+    let b : KINDS * c.args.n ≤ length a.balance.now = omega (arith, a.lengths.balance, c.requires) in
+    let r : c.args.n ≤ length a.revision.now = omega (arith, a.lengths.revision, c.requires) in
+    record {
+      yes = λ e. true≢false (sym e ∙ c.if-all_limited.false);
+      no = λ e h. true≢false (sym (balances_limited c.args.n _ _ b r h) ∙ sym c.all_limited.ensures ∙ e);
     }

@@ -1,10 +1,10 @@
--- `taken::user_numbers::all_zero` meets its contract: the bits of every number passed so far are gathered. Assumes nothing.
+-- `taken::user_numbers::no_numbers` meets its contract: the bits of every number passed so far are gathered. Assumes nothing.
 use mathlib.Core.Path.{◌≡◌}
 use native.Mathlib.Omega.{arith}
 use lib.ListN.{get_or}
 use borrow.Author.Count.{below_more}
 use Rattle.numbers.proofs.Bits.{gather}
-use Rattle.taken.proofs.user_numbers.all_zero.Goals as goal
+use Rattle.taken.proofs.user_numbers.no_numbers.Goals as goal
 
 pub loop-user-preserved : goal.loop-user-preserved
 loop-user-preserved c =
