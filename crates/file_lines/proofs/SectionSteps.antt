@@ -20,7 +20,7 @@ use Rattle.file_lines.specs.declared.lines.Entering.{Entering}
 use Rattle.file_lines.specs.Entering.{day_of, Holds}
 use Rattle.file_lines.specs.Pieces.{user_refusal, joined, line_refusal, lined}
 use Rattle.file_lines.proofs.Steps.{user_joined, user_refused}
-use Rattle.file_lines.proofs.Leading.{Leads, Stops, leads_then, leads_stop, stops_there, table_rest, table_next, flat_next, flat_rest, line_goes, line_stops}
+use Rattle.file_lines.proofs.Leading.{HoldsAt, with_line, Leads, Stops, leads_then, leads_stop, stops_there, table_rest, table_next, flat_next, flat_rest, line_goes, line_stops}
 
 -- a user's line as it stands in the file from a place on
 abbrev pub entry_at : List ℕ → ℕ → ℕ → LineEntry
@@ -29,54 +29,55 @@ entry_at f u a = record { user = u; kind = u8 f a; consumption = u32 f (a + 1); 
 -- ---- the lines of a section
 
 module _ (f : List ℕ) (s : Section) (i : ℕ) (e₀ : Entering) where
-  -- the user has joined, and the first j lines are added
-  pub record Lines (e : Entering) (j : ℕ) : Type 0 where
+  -- the user has joined, and the first j lines are added, with which all consumption and losses sum to x
+  pub record Lines (e : Entering) (x j : ℕ) : Type 0 where
     pub room : i < USERS
     pub here : get_or e.users i 0 ≡ user_of f s
-    pub holds : Holds (i + 1) e
+    pub holds : HoldsAt (i + 1) e x
     pub leads : Leads (join (user_of f s) ∷ table (line_at f s) j) (day_of e₀ i) (day_of e (i + 1))
 
   -- the user
   module _ {limit u : ℕ} (h : Holds i e₀) (m : limit ≡ USERS) (q : u ≡ user_of f s) (l : u < 256 ^ 2) where
-    pub no_lines : {e : Entering} → 0 ≡ user_refusal limit u i e₀.users → e ≡ joined i u e₀ → Lines e 0
+    pub no_lines : {e : Entering} → 0 ≡ user_refusal limit u i e₀.users → e ≡ joined i u e₀ → Lines e e.offtake 0
     unfolding table
     no_lines w k =
         let j = user_joined h u (omega arith) (w ∙ ap (λ n. user_refusal n u i e₀.users) m) refl refl in
-        subst (λ e. Lines e 0) (sym k) (record { room = j.room; here = j.here ∙ q; holds = j.entered; leads = λ g w rest r. rw (sym q) (j.goes_on g w rest r) })
+        subst (λ e. Lines e e.offtake 0) (sym k) (record { room = j.room; here = j.here ∙ q; holds = j.entered; leads = λ g w rest r. rw (sym q) (j.goes_on g w rest r) })
 
     pub user_stops : (n : Refusal) → number_of n ≡ user_refusal limit u i e₀.users → Stops (number_of n) (section_calls f s) (day_of e₀ i)
     user_stops n w g t rest r =
         rw (sym q) (user_refused h u (omega arith) (w ∙ ap (λ k. user_refusal k u i e₀.users) m) (refused_not_0 n) g t (table (line_at f s) (line_count s) ++ rest) r)
 
   -- a line
-  module _ {e : Entering} {j : ℕ} (so_far : Lines e j) {u : ℕ} (q : u ≡ user_of f s) {l : LineEntry} (p : l ≡ entry_at f u (s.offset + USER + LINE * j)) where
+  module _ {e : Entering} {x j : ℕ} (so_far : Lines e x j) {u : ℕ} (q : u ≡ user_of f s) {l : LineEntry} (p : l ≡ entry_at f u (s.offset + USER + LINE * j)) where
     abbrev entry : LineEntry
     entry = entry_at f (user_of f s) (s.offset + USER + LINE * j)
 
     is_entry : l ≡ entry
     is_entry = p ∙ ap (λ u. entry_at f u (s.offset + USER + LINE * j)) q
 
-    pub one_more_line : {e' : Entering} → 0 ≡ line_refusal l e.offtake → e' ≡ lined i l e → Lines e' (j + 1)
-    one_more_line w k =
-        let goes = line_goes i so_far.holds entry so_far.here (w ∙ ap (λ (l : LineEntry). line_refusal l e.offtake) is_entry) in
-        subst (λ e. Lines e (j + 1)) (sym (k ∙ ap (λ l. lined i l e) is_entry)) (record {
+    pub one_more_line : {e' : Entering} {x' : ℕ} → 0 ≡ line_refusal l x → x' ≡ with_line l x → e' ≡ lined i l e → Lines e' x' (j + 1)
+    one_more_line {e'} w y k =
+        let goes = line_goes i e so_far.holds entry so_far.here (w ∙ ap (λ (l : LineEntry). line_refusal l x) is_entry) in
+        subst (λ x. Lines e' x (j + 1)) (sym (y ∙ ap (λ l. with_line l x) is_entry))
+        (subst (λ e. Lines e (with_line entry x) (j + 1)) (sym (k ∙ ap (λ l. lined i l e) is_entry)) (record {
           room = so_far.room;
           here = so_far.here;
           holds = goes.0;
           leads =
               subst (λ t. Leads (join (user_of f s) ∷ t) (day_of e₀ i) (day_of (lined i entry e) (i + 1))) (table_next (line_at f s) j)
               (leads_then (day_of e₀ i) (day_of e (i + 1)) (day_of (lined i entry e) (i + 1)) (join (user_of f s) ∷ table (line_at f s) j) (line_at f s j ∷ []) so_far.leads goes.1);
-        })
+        }))
 
-    pub lines_stop : (n : Refusal) → number_of n ≡ line_refusal l e.offtake → j < line_count s → Stops (number_of n) (section_calls f s) (day_of e₀ i)
+    pub lines_stop : (n : Refusal) → number_of n ≡ line_refusal l x → j < line_count s → Stops (number_of n) (section_calls f s) (day_of e₀ i)
     lines_stop n w b =
-        let stops = line_stops i so_far.holds entry so_far.here n (w ∙ ap (λ (l : LineEntry). line_refusal l e.offtake) is_entry) in
+        let stops = line_stops i e so_far.holds entry so_far.here n (w ∙ ap (λ (l : LineEntry). line_refusal l x) is_entry) in
         subst⁻¹ (λ t. Stops (number_of n) (join (user_of f s) ∷ t) (day_of e₀ i)) (table_rest (line_at f s) (j + 1) (line_count s) (omega arith))
         (stops_there (day_of e₀ i) (join (user_of f s) ∷ table (line_at f s) (j + 1)) (table (λ k. line_at f s ((j + 1) + k)) (line_count s - (j + 1)))
         (subst (λ t. Stops (number_of n) (join (user_of f s) ∷ t) (day_of e₀ i)) (table_next (line_at f s) j)
         (leads_stop (day_of e₀ i) (day_of e (i + 1)) (join (user_of f s) ∷ table (line_at f s) j) (line_at f s j ∷ []) so_far.leads stops)))
 
-  pub all_lines : {e : Entering} {j : ℕ} → Lines e j → j ≡ line_count s → Leads (section_calls f s) (day_of e₀ i) (day_of e (i + 1))
+  pub all_lines : {e : Entering} {x j : ℕ} → Lines e x j → j ≡ line_count s → Leads (section_calls f s) (day_of e₀ i) (day_of e (i + 1))
   all_lines {e} so_far k = subst (λ n. Leads (join (user_of f s) ∷ table (line_at f s) n) (day_of e₀ i) (day_of e (i + 1))) k so_far.leads
 
 -- ---- all sections

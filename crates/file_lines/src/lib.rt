@@ -26,10 +26,13 @@ impl Entering {
         let user = wire::read::<2>(file.bytes, section.offset) as u16;
         self.join(i, limit, user)?;
         let lines = section.lines();
+        // A sum in a local stays in a register, where one beside the arrays is read and written each time.
+        let mut offtake = self.offtake;
         for j in 0..lines {
             let entry = lines::read_line(file.bytes, section.offset + USER + LINE * j, user);
-            self.line(i, entry)?;
+            offtake = self.line(i, entry, offtake)?;
         }
+        self.offtake = offtake;
         Ok(())
     }
 

@@ -1,9 +1,9 @@
 // A line and a user of a day file, entered into the arrays of a point-day.
-ghost use Rattle.std.specs.Prelude.{◌≡◌, ◌+◌, ◌≤◌, ◌<◌, eqb, length};
+ghost use Rattle.std.specs.Prelude.{◌≡◌, ◌+◌, ◌≤◌, ◌<◌, eqb, length, IfOk};
 ghost use Rattle.numbers.specs.Sums.{pick};
 ghost use Rattle.numbers.specs.Refusals.{status_of};
 ghost use Rattle.point_day.specs.Limits.{USERS, LIMIT};
-ghost use Rattle.line.specs.Cell.{Limited};
+ghost use Rattle.line.specs.Cell.{line_losses, Limited};
 ghost use Rattle.day_file.specs.Form.{LINE, u8, u16, u32};
 ghost use Rattle.file_lines.specs.Pieces.{user_refusal, joined, line_refusal, lined, nothing_entered};
 
@@ -68,10 +68,12 @@ impl Entering {
         Ok(())
     }
 
-    // A line of the user of a slot.
-    pub fn line(&mut self, slot: usize, entry: LineEntry) -> Result<(), Refusal>
-        requires { (slot < USERS) × (self.old.offtake ≤ LIMIT) × Limited self.old.consumption × Limited self.old.losses }
-        ensures value { status_of result ≡ line_refusal entry self.old.offtake }
+    // A line of the user of a slot; `offtake` is all consumption and losses of the lines before. The answer is the same after the line. (The
+    // field `offtake` is left alone: the loop over the lines keeps the sum.)
+    pub fn line(&mut self, slot: usize, entry: LineEntry, offtake: u64) -> Result<u64, Refusal>
+        requires { (slot < USERS) × (offtake ≤ LIMIT) × Limited self.old.consumption × Limited self.old.losses }
+        ensures value { status_of result ≡ line_refusal entry offtake }
+        ensures with_line { IfOk result (λ sum. sum ≡ offtake + (entry.consumption + line_losses entry.consumption entry.coefficient)) }
         ensures after { self.new ≡ pick (eqb (status_of result) 0) (lined slot entry self.old) self.old }
     {
         if !entry.is_right() {
@@ -82,9 +84,8 @@ impl Entering {
             &mut self.losses,
             slot,
             entry,
-            self.offtake,
+            offtake,
         )?;
-        self.offtake += entry.consumption + added;
-        Ok(())
+        Ok(offtake + (entry.consumption + added))
     }
 }

@@ -34,21 +34,21 @@ line-requires c =
     let l = c.loop-j.invariant in
     (l.room, sum_small l.holds, limited_consumption l.holds, limited_losses l.holds)
 
-pub returns-in_err-line-clause-comes_to : goal.returns-in_err-line-clause-comes_to
-returns-in_err-line-clause-comes_to c =
+pub returns-in_err-offtake-clause-comes_to : goal.returns-in_err-offtake-clause-comes_to
+returns-in_err-offtake-clause-comes_to c =
     let a = c.args in
     let f = a.file.now.bytes.now in
     let r = c.section-section in
-    let n = c.in_err-line.field-0.0 in
+    let n = c.in_err-offtake.field-0.0 in
     let p = day_of a.self.now a.i in
-    stopped (refusal_passed _ n c.from_residual-in_err-line.ensures.1) (section_calls f (section_at f a.i)) p (day_of c.line.new.self (a.i + 1))
+    stopped (refusal_passed _ n c.from_residual-in_err-offtake.ensures.1) (section_calls f (section_at f a.i)) p (day_of c.line.new.self (a.i + 1))
     (subst (λ s. Stops (number_of n) (section_calls f s) p) r.ensures.value
-    (lines_stop f r.result a.i a.self.now c.loop-j.invariant c.read-user.ensures.0 c.read_line-entry.ensures n c.in_err-line.ensures.value (omega (arith, c.loop-j-test.true, c.lines-lines.ensures))))
+    (lines_stop f r.result a.i a.self.now c.loop-j.invariant c.read-user.ensures.0 c.read_line-entry.ensures n c.in_err-offtake.ensures.value (omega (arith, c.loop-j-test.true, c.lines-lines.ensures))))
 
 pub loop-j-preserved : goal.loop-j-preserved
 loop-j-preserved c =
     let a = c.args in
-    one_more_line a.file.now.bytes.now c.section-section.result a.i a.self.now c.loop-j.invariant c.read-user.ensures.0 c.read_line-entry.ensures c.in_ok-line.ensures.value c.in_ok-line.ensures.after
+    one_more_line a.file.now.bytes.now c.section-section.result a.i a.self.now c.loop-j.invariant c.read-user.ensures.0 c.read_line-entry.ensures c.in_ok-offtake.ensures.value c.in_ok-offtake.ensures.with_line c.in_ok-offtake.ensures.after
 
 pub returns : goal.returns
 returns c =
