@@ -1,7 +1,7 @@
 -- What `?` passes on is the refusal that came, with its number. Assumes nothing.
 use mathlib.Core.Path.{◌≡◌, ap}
 use native.Mathlib.Omega.{arith}
-use Rattle.numbers.specs.declared.Refusal.TheVariants.{WrongStage, OutOfRange, NotJoined, AlreadyJoined, AllJoined, AboveLimit, Unmeasured, NoUser, NetTooLow, NoPair, NegativeWeight, AmountTooLarge, Malformed, ShortBuffer, NoBasis}
+use Rattle.numbers.specs.declared.Refusal.TheVariants.{WrongStage, OutOfRange, NotJoined, AlreadyJoined, AllJoined, AboveLimit, Unmeasured, NoUser, NetTooLow, NoPair, NegativeWeight, AmountTooLarge, Malformed, ShortBuffer, NoBasis, WrongArrival}
 use Rattle.std.specs.Prelude.{Result, Ok, Err}
 use Rattle.std.specs.Result.{IsErrAnd}
 use Rattle.numbers.specs.declared.Refusal.{Refusal}
@@ -32,3 +32,4 @@ refused_not_0 AmountTooLarge e = absurd (omega arith)
 refused_not_0 Malformed e = absurd (omega arith)
 refused_not_0 ShortBuffer e = absurd (omega arith)
 refused_not_0 NoBasis e = absurd (omega arith)
+refused_not_0 WrongArrival e = absurd (omega arith)

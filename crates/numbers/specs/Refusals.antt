@@ -2,7 +2,7 @@
 use Rattle.std.specs.Prelude.{Bool, List, [], ◌∷◌, ◌≡◌, ℕ}
 use Rattle.std.specs.Prelude.{Result, Ok, Err}
 use Rattle.numbers.specs.declared.Refusal.{Refusal}
-use Rattle.numbers.specs.declared.Refusal.TheVariants.{WrongStage, OutOfRange, NotJoined, AlreadyJoined, AllJoined, AboveLimit, Unmeasured, NoUser, NetTooLow, NoPair, NegativeWeight, AmountTooLarge, Malformed, ShortBuffer, NoBasis}
+use Rattle.numbers.specs.declared.Refusal.TheVariants.{WrongStage, OutOfRange, NotJoined, AlreadyJoined, AllJoined, AboveLimit, Unmeasured, NoUser, NetTooLow, NoPair, NegativeWeight, AmountTooLarge, Malformed, ShortBuffer, NoBasis, WrongArrival}
 use Rattle.numbers.specs.Sums.{pick}
 
 -- ---- the table
@@ -67,6 +67,10 @@ SHORT_BUFFER = 14
 abbrev pub NO_BASIS : ℕ
 NO_BASIS = 15
 
+-- document 02, Req 01: "length is none of the three, or arrival exceeds it"
+abbrev pub WRONG_ARRIVAL : ℕ
+WRONG_ARRIVAL = 16
+
 -- ---- tests
 
 -- a row of the table of refusals: its number, and whether its condition holds
@@ -107,6 +111,7 @@ number_of AmountTooLarge = AMOUNT_TOO_LARGE
 number_of Malformed = MALFORMED
 number_of ShortBuffer = SHORT_BUFFER
 number_of NoBasis = NO_BASIS
+number_of WrongArrival = WRONG_ARRIVAL
 
 -- what the conversion gives
 abbrev pub Numbers : Refusal → ℕ → Type 0

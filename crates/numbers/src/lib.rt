@@ -11,7 +11,7 @@ ghost use Rattle.numbers.specs.Amounts.{SAFE, Within, Between, Decides, is_negat
 ghost use Rattle.numbers.specs.Lists.{every};
 ghost use Rattle.numbers.specs.Nearest.{nearest};
 
-// ---- the table of document 01, section "Refusals"
+// ---- the table of document 01, section "Refusals", and the rows that document 02 adds
 
 // A refusal; its number is document 01's.
 #[derive(Clone, Copy, Debug, PartialEq, Eq)]
@@ -60,6 +60,9 @@ pub enum Refusal {
 
     // "no basis for an estimate"
     NoBasis = 15,
+
+    // "length is none of the three, or arrival exceeds it" (document 02, Req 01)
+    WrongArrival = 16,
 }
 
 impl From<Refusal> for u8 {

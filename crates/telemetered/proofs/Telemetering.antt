@@ -24,6 +24,7 @@ use Rattle.std.specs.Prelude.{Option, None, Some}
 use Rattle.std.specs.Option.{option_or}
 use Rattle.supply.specs.declared.Flows.{Flows}
 use Rattle.history.specs.declared.Entry.{Entry}
+use Rattle.telemetered.specs.declared.own_value.OwnValue.{OwnValue}
 
 -- ---- what the tests tell
 
@@ -56,7 +57,7 @@ found_answer hs d f n xs = go (last_three hs d xs) (is_new xs)
 
 -- ---- two histories with the same entries that count give the same answer, and one that is too long is refused
 
-module _ (d : ℕ) (hs : List ℕ) (reading own : Option ℕ) (f : Flows) (n : ℕ) where
+module _ (d : ℕ) (hs : List ℕ) (reading : Option ℕ) (own : Option OwnValue) (f : Flows) (n : ℕ) where
   pub same_answer : (es fs : List Entry) → take n es ≡ take n fs → telemetered d hs reading own f n es ≡ telemetered d hs reading own f n fs
   unfolding telemetered history_right
   same_answer es fs e = rw e

@@ -1,2 +1,3 @@
+pub mod OwnValue
 pub mod Telemetered
 pub mod Cases

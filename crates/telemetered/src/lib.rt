@@ -1,15 +1,19 @@
 // Telemetered points: the reading, the user's own value, the mean of the last three readings, or a new consumer's flow.
 #![tactic(auto)]
 
+pub mod own_value;
+
 ghost use Rattle.std.specs.Prelude.{◌≡◌, true, length};
 ghost use Rattle.numbers.specs.Lists.{both};
 ghost use Rattle.calendar.specs.Answers.{answer_of};
 ghost use Rattle.supply.specs.Amounts.{amount_right, flows_right};
+ghost use Rattle.telemetered.specs.OwnValue.{value_sent};
 ghost use Rattle.telemetered.specs.Telemetered.{from_found, telemetered};
 
 use calendar::Calendar;
 use history::{ENTRIES, Entries, Entry, Found};
 use numbers::Refusal;
+use own_value::OwnValue;
 use supply::Flows;
 
 // A consumption, and the entries of the history that were looked at.
@@ -38,10 +42,12 @@ fn from_found(found: Found, flows: Flows) -> Result<Estimate, Refusal>
 }
 
 // Whether the reading, the user's own value and the contracted flows are in their ranges, or missing.
-fn are_amounts(reading: Option<u64>, own: Option<u64>, flows: Flows) -> bool
-    ensures { result ≡ both (amount_right reading) (both (amount_right own) (flows_right flows)) }
+fn are_amounts(reading: Option<u64>, own: Option<OwnValue>, flows: Flows) -> bool
+    ensures { result ≡ both (amount_right reading) (both (amount_right (value_sent own)) (flows_right flows)) }
 {
-    supply::is_amount(reading) && supply::is_amount(own) && supply::are_flows(flows)
+    supply::is_amount(reading)
+        && supply::is_amount(own_value::value_sent(own))
+        && supply::are_flows(flows)
 }
 
 // The consumption of a telemetered supply point on a gas day, given its reading and the user's own value, if there are any, and its history,
@@ -51,7 +57,7 @@ pub fn consumption<E: Entries>(
     day: u32,
     holidays: &[u32],
     reading: Option<u64>,
-    own: Option<u64>,
+    own: Option<OwnValue>,
     flows: Flows,
     history: &E,
 ) -> Result<Estimate, Refusal>
@@ -61,7 +67,10 @@ pub fn consumption<E: Entries>(
     if !are_amounts(reading, own, flows) || !history::is_history(day, history) {
         return Err(Refusal::OutOfRange);
     }
-    if let Some(kwh) = reading.or(own) {
+    if !own_value::is_arrival(own) {
+        return Err(Refusal::WrongArrival);
+    }
+    if let Some(kwh) = reading.or(own_value::value_to_use(own)) {
         return Ok(Estimate { kwh, looked: 0 });
     }
     from_found(history::search(&calendar, history), flows)
@@ -73,7 +82,7 @@ pub fn telemetered(
     day: u32,
     holidays: &[u32],
     reading: Option<u64>,
-    own: Option<u64>,
+    own: Option<OwnValue>,
     flows: Flows,
     history: [Entry; ENTRIES],
     count: usize,

@@ -1,9 +1,8 @@
 -- `telemetered::telemetered` meets its contract: entries past the count are not looked at. Assumes nothing.
-use mathlib.Core.Path.{◌≡◌, sym, ap, ◌∙◌}
+use mathlib.Core.Path.{◌≡◌, sym, ◌∙◌}
 use native.Mathlib.Omega.{arith}
 use lib.ListN.{length, take}
 use borrow.Author.Rules.{rules}
-use Rattle.telemetered.specs.Telemetered.{telemetered}
 use Rattle.telemetered.proofs.Telemetering.{counted, too_long}
 use Rattle.telemetered.proofs.telemetered.Goals as goal
 
