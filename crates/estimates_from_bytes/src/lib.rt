@@ -14,7 +14,9 @@ use std::{fmt, io};
 use supply::{Flows, Toll};
 use type_1::{OtherToll, Toll34};
 use type_2::Year;
-use values_from_bytes::{pass_winter, read_history, read_list, read_optional, read_winter};
+use values_from_bytes::{
+    pass_winter, read_history, read_list, read_optional, read_own, read_winter,
+};
 
 // The most holidays and degree days of a list, and the most lists of winters that are read.
 const MOST_HOLIDAYS: usize = 4000;
@@ -63,7 +65,7 @@ fn telemetered(input: &mut Input) -> Result<Result<Two, Refusal>, Malformed>
     let day = u32::read(input)?;
     let holidays = read_list::<u16, u32>(input, &mut room)?;
     let reading = read_optional(input)?;
-    let own = read_optional(input)?;
+    let own = read_own(input)?;
     let flows = read_flows(input)?;
     let count = u16::read(input)?;
     let history = read_history(input, count)?;

@@ -1,11 +1,12 @@
-// Values that stand in lists of numbers: an optional amount, contracted flows, a history. What has no meaning becomes a value out of its range.
+// Values that stand in lists of numbers: an optional amount, the user's own value, contracted flows, a history. What has no meaning becomes a value out of its range.
 #![tactic(auto)]
 
 ghost use Rattle.std.specs.Prelude.{◌≡◌, length};
-ghost use Rattle.plain_values.specs.Lists.{amount_in, toll_in, factor_in, flows_in, reading_in, entries_in};
+ghost use Rattle.plain_values.specs.Lists.{amount_in, own_in, toll_in, factor_in, flows_in, reading_in, entries_in};
 
 use history::{Entries, Reading};
 use supply::{Flows, LIMIT, THOUSAND, Toll};
+use telemetered::own_value::OwnValue;
 
 // An amount that may be missing.
 pub fn amount_in(list: &[u64]) -> Option<u64>
@@ -16,6 +17,18 @@ pub fn amount_in(list: &[u64]) -> Option<u64>
         [value] => Some(*value),
         _ => Some(LIMIT + 1),
     }
+}
+
+// The user's own value, that may be missing, with its arrival and the length of the gas day, which go for nothing where it is.
+pub fn own_in(list: &[u64], arrival: u32, length: u32) -> Option<OwnValue>
+    ensures { result ≡ own_in list.now arrival length }
+{
+    let kwh = amount_in(list)?;
+    Some(OwnValue {
+        kwh,
+        arrival,
+        length,
+    })
 }
 
 // Tolls and the kinds of entries go by numbers, as C callers give them: one that has no meaning is to be refused by the call.

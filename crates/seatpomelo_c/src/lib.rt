@@ -23,7 +23,7 @@ ghost use Rattle.split.specs.Call.{answer, after};
 ghost use Rattle.spread.specs.Spread.{spread, number_of};
 ghost use Rattle.day_report.specs.Answered.{report_call, buffer_after, size_of};
 ghost use Rattle.seatpomelo.specs.Settled.{settled, settles, number, size, type_number, month_numbers, province_numbers, estimate_numbers};
-ghost use Rattle.plain_values.specs.Lists.{amount_in, flows_in, entries_in, entry_count};
+ghost use Rattle.plain_values.specs.Lists.{amount_in, own_in, flows_in, entries_in, entry_count};
 
 // ---- The point-day, in plain numbers that the caller lends, in place
 
@@ -172,6 +172,8 @@ pub extern "C" fn seatpomelo_telemetered(
     holidays: &[u32],
     reading: &[u64],
     own: &[u64],
+    arrival: u32,
+    day_length: u32,
     toll: u8,
     yearly: &[u64],
     daily: &[u64],
@@ -181,13 +183,15 @@ pub extern "C" fn seatpomelo_telemetered(
     consumption: &mut u64,
     looked_at: &mut u64,
 ) -> u8
-    ensures { settled result (consumption.new ∷ looked_at.new ∷ []) ≡ settles estimate_numbers (telemetered day holidays.now (amount_in reading.now) (amount_in own.now) (flows_in toll yearly.now daily.now factor) (entry_count tags.now values.now) (entries_in tags.now values.now)) (consumption.old ∷ looked_at.old ∷ []) }
+    ensures { settled result (consumption.new ∷ looked_at.new ∷ []) ≡ settles estimate_numbers (telemetered day holidays.now (amount_in reading.now) (own_in own.now arrival day_length) (flows_in toll yearly.now daily.now factor) (entry_count tags.now values.now) (entries_in tags.now values.now)) (consumption.old ∷ looked_at.old ∷ []) }
 {
     seatpomelo::seatpomelo_telemetered(
         day,
         holidays,
         reading,
         own,
+        arrival,
+        day_length,
         toll,
         yearly,
         daily,

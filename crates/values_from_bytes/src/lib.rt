@@ -6,6 +6,7 @@ ghost use Rattle.console.specs.Input.{Onward};
 
 use console::input::{Input, Malformed, Number};
 use history::{ENTRIES, Entry, Reading};
+use telemetered::own_value::OwnValue;
 
 // The bytes of an entry: its tag and its value.
 const ENTRY_BYTES: usize = 9;
@@ -22,6 +23,20 @@ pub fn read_optional(input: &mut Input) -> Result<Option<u64>, Malformed>
     } else {
         Ok(None)
     }
+}
+
+// The next own value of a user, if one was sent: the value, its arrival and the length of the gas day.
+pub fn read_own(input: &mut Input) -> Result<Option<OwnValue>, Malformed>
+    ensures { Onward input.old input.new }
+{
+    let Some(kwh) = read_optional(input)? else {
+        return Ok(None);
+    };
+    Ok(Some(OwnValue {
+        kwh,
+        arrival: u32::read(input)?,
+        length: u32::read(input)?,
+    }))
 }
 
 // The next list: a count, and that many numbers. More than there is room for is malformed.
