@@ -15,6 +15,11 @@ impl<'a> Reader<'a> {
         self.at == self.bytes.len()
     }
 
+    /// How many bytes have been read.
+    pub fn at(&self) -> usize {
+        self.at
+    }
+
     pub fn take(&mut self, count: usize) -> Option<&'a [u8]> {
         let rest = &self.bytes[self.at..];
         if count > rest.len() {

@@ -7,7 +7,9 @@ use crate::reading;
 use crate::refusal::Refusal;
 use crate::replay::{lent_buffer, read_buffer_length, read_flag, MAX_BUFFER};
 use crate::run::{named, Run};
-use crate::supply::{Entry, Profile, Telemetered, Type1Other, Type1Toll34, Type2, MAX_HISTORY};
+use crate::supply::{
+    Entry, OwnValue, Profile, Telemetered, Type1Other, Type1Toll34, Type2, MAX_HISTORY,
+};
 use crate::temperature;
 
 #[derive(Clone, Debug)]
@@ -237,7 +239,7 @@ fn read_telemetered(input: &mut Reader) -> Option<Telemetered> {
         day: input.u32()? as i128,
         holidays: read_holidays(input)?,
         reading: read_optional(input)?,
-        own: read_optional(input)?,
+        own: read_own(input)?,
         toll_3_4: read_flag(input)?,
         q_a: read_optional(input)?,
         q_d: read_optional(input)?,
@@ -250,7 +252,7 @@ fn write_telemetered(point: &Telemetered, out: &mut Writer) {
     out.u32(point.day as u32);
     write_holidays(&point.holidays, out);
     write_optional(point.reading, out);
-    write_optional(point.own, out);
+    write_own(point.own, out);
     out.u8(point.toll_3_4 as u8);
     write_optional(point.q_a, out);
     write_optional(point.q_d, out);
@@ -270,7 +272,7 @@ fn write_telemetered(point: &Telemetered, out: &mut Writer) {
 }
 
 /// Entries past the 400th are passed over; they count all the same.
-fn read_history(input: &mut Reader) -> Option<Vec<Entry>> {
+pub fn read_history(input: &mut Reader) -> Option<Vec<Entry>> {
     let count = input.u16()? as usize;
     let mut history = Vec::new();
     for i in 0..count {
@@ -289,7 +291,7 @@ fn read_history(input: &mut Reader) -> Option<Vec<Entry>> {
 }
 
 /// An optional value is u8 0, or u8 1 and a u64.
-fn read_optional(input: &mut Reader) -> Option<Option<i128>> {
+pub fn read_optional(input: &mut Reader) -> Option<Option<i128>> {
     Some(match read_flag(input)? {
         true => Some(input.u64()? as i128),
         false => None,
@@ -303,6 +305,24 @@ fn write_optional(value: Option<i128>, out: &mut Writer) {
     }
 }
 
+/// An own value is u8 0, or u8 1, u64 value, u32 arrival and u32 length.
+fn read_own(input: &mut Reader) -> Option<Option<OwnValue>> {
+    Some(match read_optional(input)? {
+        Some(value) => {
+            Some(OwnValue { value, arrival: input.u32()? as i128, length: input.u32()? as i128 })
+        }
+        None => None,
+    })
+}
+
+fn write_own(own: Option<OwnValue>, out: &mut Writer) {
+    write_optional(own.map(|own| own.value), out);
+    if let Some(own) = own {
+        out.u32(own.arrival as u32);
+        out.u32(own.length as u32);
+    }
+}
+
 fn read_numbers(count: usize, input: &mut Reader) -> Option<Vec<i128>> {
     let mut numbers = Vec::new();
     for _ in 0..count {
@@ -311,7 +331,7 @@ fn read_numbers(count: usize, input: &mut Reader) -> Option<Vec<i128>> {
     Some(numbers)
 }
 
-fn read_holidays(input: &mut Reader) -> Option<Vec<i128>> {
+pub fn read_holidays(input: &mut Reader) -> Option<Vec<i128>> {
     let count = input.u16()? as usize;
     if count > MAX_HOLIDAYS_READ {
         return None;

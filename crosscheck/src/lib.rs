@@ -1,4 +1,4 @@
-//! An independent calculation of document 01 in exact integers.
+//! An independent calculation of document 01, with request 01 of document 02, in exact integers.
 
 pub mod bytes;
 pub mod calendar;
@@ -15,6 +15,7 @@ pub mod files;
 pub mod inventory;
 pub mod limits;
 pub mod list_check;
+pub mod old_vectors;
 pub mod plain;
 pub mod point_day;
 pub mod proration;

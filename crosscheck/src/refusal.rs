@@ -1,4 +1,4 @@
-//! Document 01, "Refusals".
+//! Document 01, "Refusals", and those that the requests of document 02 add.
 
 /// The conditions of the table, by their numbers.
 #[derive(Clone, Copy, Debug, PartialEq, Eq, PartialOrd, Ord)]
@@ -18,6 +18,8 @@ pub enum Refusal {
     MalformedFile = 13,
     BufferTooShort = 14,
     NoBasis = 15,
+    /// Tested right after 2.
+    WrongArrival = 16,
 }
 
 impl Refusal {

@@ -88,6 +88,11 @@ pub fn programs() -> Vec<Program> {
             ],
         },
         Program {
+            name: "estimate_arrivals",
+            run: estimate::run,
+            inputs: vec![Input { operations: ALL, make: cases::estimate::arrivals }],
+        },
+        Program {
             name: "dayreport",
             run: day_file::run,
             inputs: vec![Input { operations: ALL, make: |_| Ok(FileBuilder::e().bytes()) }],

@@ -1,4 +1,4 @@
-//! Document 01, "Consumption of a supply point".
+//! Document 01, "Consumption of a supply point", with request 01 of document 02.
 //!
 //! "Each answer is one exact fraction, rounded once to nearest."
 
@@ -23,6 +23,33 @@ const MONTHS: i128 = 12;
 pub const MAX_CONSUMERS: i128 = 10_000_000;
 /// Profile, month consumption, and consumers times profile: 10^12.
 pub const MAX_PROFILE: i128 = 1_000_000_000_000;
+
+/// The minutes that a gas day may have.
+pub const DAY_LENGTHS: [i128; 3] = [1_380, 1_440, 1_500];
+/// "It is used if arrival is at most length − 720."
+pub const TWELVE_HOURS: i128 = 720;
+
+/// A user's own value, as it was sent.
+#[derive(Clone, Copy, Debug, PartialEq, Eq)]
+pub struct OwnValue {
+    pub value: i128,
+    /// In minutes from the start of the gas day.
+    pub arrival: i128,
+    /// Of the gas day, in minutes.
+    pub length: i128,
+}
+
+impl OwnValue {
+    /// Such a gas day exists, and the value came while it ran or as it ended.
+    fn came_in_a_gas_day(&self) -> bool {
+        DAY_LENGTHS.contains(&self.length) && self.arrival <= self.length
+    }
+
+    /// It came twelve hours before the gas day ended, or earlier.
+    fn counts(&self) -> bool {
+        self.arrival + TWELVE_HOURS <= self.length
+    }
+}
 
 #[derive(Clone, Copy, Debug, PartialEq, Eq)]
 pub enum Entry {
@@ -67,7 +94,8 @@ pub struct Telemetered {
     pub day: i128,
     pub holidays: Vec<i128>,
     pub reading: Option<i128>,
-    pub own: Option<i128>,
+    /// `None` was not sent: it has neither arrival nor length.
+    pub own: Option<OwnValue>,
     pub toll_3_4: bool,
     pub q_a: Option<i128>,
     pub q_d: Option<i128>,
@@ -78,7 +106,8 @@ pub struct Telemetered {
 
 impl Telemetered {
     fn in_range(&self) -> bool {
-        let values = [self.reading, self.own, self.q_a, self.q_d];
+        let own = self.own.map(|own| own.value);
+        let values = [self.reading, own, self.q_a, self.q_d];
         calendar::in_range(self.day, &self.holidays)
             && values.into_iter().all(energy_or_missing)
             && (0..=THOUSAND).contains(&self.f_c)
@@ -92,7 +121,13 @@ impl Telemetered {
         if !self.in_range() {
             return Err(Refusal::OutOfRange);
         }
-        if let Some(value) = self.reading.or(self.own) {
+        // A reading does not excuse it, nor does it matter whether there is another basis.
+        if self.own.is_some_and(|own| !own.came_in_a_gas_day()) {
+            return Err(Refusal::WrongArrival);
+        }
+        // "A later value is treated as not sent."
+        let own = self.own.filter(OwnValue::counts);
+        if let Some(value) = self.reading.or(own.map(|own| own.value)) {
             return Ok((value, 0));
         }
         let (found, looked_at) = self.search();
@@ -300,6 +335,54 @@ mod tests {
         let type2 =
             Type2 { consumers: 1, profile: 996_884_735_203, g: 161, winters: vec![mean_160] };
         assert_eq!(type2.estimate(), Ok(1_000_000_000));
+    }
+
+    /// On a Friday, with three readings of Fridays and one more entry behind them.
+    fn with_own(own: OwnValue) -> Telemetered {
+        let mut history = vec![Entry::Nothing; 22];
+        for week in [7, 14, 21] {
+            history[week - 1] = Entry::Real(week as i128);
+        }
+        Telemetered {
+            day: 700,
+            holidays: vec![],
+            reading: None,
+            own: Some(own),
+            toll_3_4: false,
+            q_a: None,
+            q_d: None,
+            f_c: 750,
+            history,
+        }
+    }
+
+    #[test]
+    fn an_own_value_counts_until_twelve_hours_before_the_end() {
+        for (length, limit) in [(1_380, 660), (1_440, 720), (1_500, 780)] {
+            let came = |arrival| with_own(OwnValue { value: 5, arrival, length }).estimate();
+            assert_eq!(came(0), Ok((5, 0)));
+            assert_eq!(came(limit), Ok((5, 0)));
+            assert_eq!(came(limit + 1), Ok((14, 21)));
+            assert_eq!(came(length), Ok((14, 21)));
+            assert_eq!(came(length + 1), Err(Refusal::WrongArrival));
+        }
+    }
+
+    #[test]
+    fn a_wrong_arrival_comes_after_every_range_and_before_the_basis() {
+        let own = OwnValue { value: 5, arrival: 0, length: 1_410 };
+        let wrong = with_own(own);
+        assert_eq!(wrong.estimate(), Err(Refusal::WrongArrival));
+        let read = Telemetered { reading: Some(1), ..wrong.clone() };
+        assert_eq!(read.estimate(), Err(Refusal::WrongArrival));
+        let without_basis = Telemetered { history: vec![], ..wrong.clone() };
+        assert_eq!(without_basis.estimate(), Err(Refusal::WrongArrival));
+        let too_long = vec![Entry::Nothing; MAX_HISTORY + 1];
+        assert_eq!(Telemetered { history: too_long, ..wrong }.estimate(), Err(Refusal::OutOfRange));
+        let too_large = with_own(OwnValue { value: MAX_ENERGY + 1, ..own });
+        assert_eq!(too_large.estimate(), Err(Refusal::OutOfRange));
+        let late = OwnValue { value: MAX_ENERGY + 1, arrival: 1_440, length: 1_440 };
+        assert_eq!(with_own(late).estimate(), Err(Refusal::OutOfRange));
     }
 
     #[test]

@@ -5,17 +5,33 @@ use std::path::Path;
 use crate::day_file;
 use crate::estimate;
 use crate::files;
+use crate::old_vectors;
 use crate::replay;
 use crate::run::Run;
 
 pub fn confirm(vectors: &Path) -> Result<(), String> {
     for name in ["replay-basic", "replay-final", "replay-all"] {
-        confirm_one(vectors, name, replay::run)?;
+        let run = replay::run(&files::read(&vectors.join(format!("{name}.in")))?);
+        confirm_one(vectors, name, &run)?;
     }
     for name in ["estimate-supply", "estimate-all"] {
-        confirm_one(vectors, name, estimate::run)?;
+        let run = estimate::run(&old_vectors::read(vectors, &format!("{name}.in"))?);
+        confirm_one(vectors, name, &run)?;
     }
-    confirm_day_files(&vectors.join("dayreport"))
+    confirm_day_files(&vectors.join("dayreport"))?;
+    confirm_arrivals(vectors)
+}
+
+/// The cases of request 01, and its malformed runs.
+fn confirm_arrivals(vectors: &Path) -> Result<(), String> {
+    let run = estimate::run(&files::read(&vectors.join("requests/01/estimate.in"))?);
+    confirm_one(vectors, "requests/01/estimate", &run)?;
+    let inputs = files::in_folder(&vectors.join("requests/01/malformed"), "in")?;
+    for input in &inputs {
+        compare(&input.with_extension("out"), &estimate::run(&files::read(input)?))?;
+    }
+    println!("vectors, requests/01/malformed: {} runs confirmed", inputs.len());
+    Ok(())
 }
 
 fn confirm_day_files(folder: &Path) -> Result<(), String> {
@@ -30,16 +46,17 @@ fn confirm_day_files(folder: &Path) -> Result<(), String> {
     Ok(())
 }
 
-fn confirm_one(vectors: &Path, name: &str, run: fn(&[u8]) -> Run) -> Result<(), String> {
-    let input = files::read(&vectors.join(format!("{name}.in")))?;
-    let path = vectors.join(format!("{name}.out"));
-    let answers = files::read(&path)?;
-    let answers = String::from_utf8_lossy(&answers);
-    let run = run(&input);
-    let (stored, ours) = (rows_sorted(&answers), rows_sorted(&run.text));
-    files::compare(&path, stored.as_bytes(), ours.as_bytes())?;
+fn confirm_one(vectors: &Path, name: &str, run: &Run) -> Result<(), String> {
+    compare(&vectors.join(format!("{name}.out")), run)?;
     println!("vectors, {name}: {} operations confirmed", run.operations);
     Ok(())
+}
+
+fn compare(path: &Path, run: &Run) -> Result<(), String> {
+    let answers = files::read(path)?;
+    let answers = String::from_utf8_lossy(&answers);
+    let (stored, ours) = (rows_sorted(&answers), rows_sorted(&run.text));
+    files::compare(path, stored.as_bytes(), ours.as_bytes())
 }
 
 /// The text with the rows of each inventory in one order: they are compared as a set.

@@ -1,4 +1,4 @@
-//! The standard inputs of `estimate` and `estimate_vectors`.
+//! The standard inputs of `estimate`, `estimate_vectors` and `estimate_arrivals`.
 
 mod dates;
 mod readings;
@@ -13,6 +13,7 @@ use super::vector_files;
 use crate::bytes::Writer;
 use crate::estimate::Operation;
 use crate::limits::{MAX_ENERGY, MAX_INPUT};
+use crate::old_vectors;
 
 /// An operation byte with no meaning: the last of the input, it ends the run as malformed.
 const UNKNOWN: u8 = 255;
@@ -53,15 +54,28 @@ pub fn own(operations: Operations) -> Vec<u8> {
 /// The stored input of `estimate_vectors`.
 pub fn vectors(operations: Operations, vectors: &Path) -> Result<Vec<u8>, String> {
     let mut out = Writer::new();
-    out.raw(&vector_files::read(vectors, "estimate-supply.in")?);
+    out.raw(&old_vectors::read(vectors, "estimate-supply.in")?);
     if operations == Operations::All {
-        out.raw(&vector_files::read(vectors, "estimate-all.in")?);
+        out.raw(&old_vectors::read(vectors, "estimate-all.in")?);
     }
     Ok(ended(out))
 }
 
+/// The stored input of `estimate_arrivals`. An own value without its length ends it.
+pub fn arrivals(vectors: &Path) -> Result<Vec<u8>, String> {
+    let folder = vectors.join("requests").join("01");
+    let mut out = Writer::new();
+    out.raw(&vector_files::read(&folder, "estimate.in")?);
+    out.raw(&vector_files::read(&folder.join("malformed"), "estimate-own-value-cut.in")?);
+    Ok(held_to_the_limit(out))
+}
+
 fn ended(mut out: Writer) -> Vec<u8> {
     out.u8(UNKNOWN);
+    held_to_the_limit(out)
+}
+
+fn held_to_the_limit(out: Writer) -> Vec<u8> {
     let length = out.bytes.len();
     assert!(length <= MAX_INPUT, "{length} bytes are too many for estimate");
     out.bytes

@@ -1,11 +1,11 @@
 //! Telemetered supply points.
 
-use super::{BOUNDS, HUGE_32};
+use super::{BOUNDS, HUGE, HUGE_32};
 use crate::calendar::LAST_DAY;
 use crate::estimate::Operation;
 use crate::limits::MAX_ENERGY;
 use crate::rng::Rng;
-use crate::supply::{Entry, Telemetered, MAX_HISTORY};
+use crate::supply::{Entry, OwnValue, Telemetered, DAY_LENGTHS, MAX_HISTORY, TWELVE_HOURS};
 use Entry::{Estimated, Nothing, Own, Real};
 
 const SEED: u64 = 5;
@@ -15,8 +15,12 @@ pub fn all(out: &mut Vec<Operation>) {
     ranges(out);
     without_match(out);
     long_histories(out);
+    arrivals(out);
+    lengths(out);
+    late_values(out);
+    order_of_refusals(out);
     let mut rng = Rng::new(SEED);
-    for _ in 0..110 {
+    for _ in 0..200 {
         out.push(Operation::Telemetered(random(&mut rng)));
     }
 }
@@ -33,6 +37,11 @@ fn telemetered(day: i128, history: &[Entry]) -> Telemetered {
         f_c: 750,
         history: history.to_vec(),
     }
+}
+
+/// An own value that counts.
+fn in_time(value: i128) -> OwnValue {
+    OwnValue { value, arrival: 600, length: 1_440 }
 }
 
 /// P5 and P6; matches of one, two and three; own and estimated values; holidays.
@@ -72,8 +81,9 @@ fn ranges(out: &mut Vec<Operation>) {
     let mut add = |point: Telemetered| out.push(Operation::Telemetered(point));
     for value in BOUNDS {
         add(Telemetered { reading: value, ..telemetered(9, &[Real(5)]) });
-        add(Telemetered { own: value, ..telemetered(9, &[Real(5)]) });
-        add(Telemetered { reading: Some(3), own: value, ..telemetered(9, &[Real(5)]) });
+        let own = value.map(in_time);
+        add(Telemetered { own, ..telemetered(9, &[Real(5)]) });
+        add(Telemetered { reading: Some(3), own, ..telemetered(9, &[Real(5)]) });
         for toll_3_4 in [true, false] {
             add(Telemetered { toll_3_4, q_a: value, ..telemetered(9, &[]) });
             add(Telemetered { toll_3_4, q_d: value, ..telemetered(9, &[Own(1)]) });
@@ -87,7 +97,7 @@ fn ranges(out: &mut Vec<Operation>) {
     }
     for f_c in [0, 1, 499, 500, 750, 1_000, 1_001, HUGE_32] {
         add(Telemetered { f_c, q_d: Some(1_001), ..telemetered(3, &[Nothing]) });
-        add(Telemetered { f_c, own: Some(12), ..telemetered(3, &[]) });
+        add(Telemetered { f_c, own: Some(in_time(12)), ..telemetered(3, &[]) });
     }
     for q_a in [104, 105, 314, 315] {
         add(Telemetered { q_a: Some(q_a), toll_3_4: true, ..telemetered(3, &[Nothing]) });
@@ -150,6 +160,112 @@ fn long_histories(out: &mut Vec<Operation>) {
     add(Telemetered { reading: Some(1), ..telemetered(5_000, &over) });
 }
 
+/// On Friday 28: the third match is the 21st entry, and a fourth, which is not looked at, follows.
+fn fridays(own: OwnValue) -> Telemetered {
+    let history: Vec<Entry> =
+        (1..=28).map(|i| if i % 7 == 0 { Real(10 * i) } else { Own(i) }).collect();
+    Telemetered { own: Some(own), ..telemetered(28, &history) }
+}
+
+/// At and beside twelve hours before the end of each gas day, and its end.
+fn arrivals(out: &mut Vec<Operation>) {
+    let mut add = |point: Telemetered| out.push(Operation::Telemetered(point));
+    let beside = |minute: i128| [minute - 1, minute, minute + 1];
+    let ends = DAY_LENGTHS.into_iter().flat_map(beside);
+    let limits = DAY_LENGTHS.into_iter().flat_map(|length| beside(length - TWELVE_HOURS));
+    // The last three are small, or below 0, in fewer bits.
+    let far = [0, 1, 600, 1_000, 2_880, 1 << 16, 1 << 31, HUGE_32];
+    let arrivals: Vec<i128> = limits.chain(ends).chain(far).collect();
+    for length in DAY_LENGTHS {
+        for &arrival in &arrivals {
+            add(fridays(OwnValue { value: 7, arrival, length }));
+        }
+        for arrival in beside(length - TWELVE_HOURS).into_iter().chain(beside(length)) {
+            let own = OwnValue { value: 0, arrival, length };
+            add(fridays(own));
+            add(Telemetered { reading: Some(3), ..fridays(own) });
+            add(Telemetered { own: Some(own), ..telemetered(0, &[]) });
+        }
+    }
+}
+
+/// Lengths that no gas day has, with arrivals that would count, be late or come after the end.
+fn lengths(out: &mut Vec<Operation>) {
+    let mut add = |point: Telemetered| out.push(Operation::Telemetered(point));
+    let beside = [1_379, 1_381, 1_410, 1_439, 1_441, 1_470, 1_499, 1_501];
+    // 1,440 in hours, in seconds and in 16 bits; twice and half of it.
+    let mistaken = [24, 86_400, (1 << 16) + 1_440, 2_880, 720];
+    for length in beside.into_iter().chain(mistaken).chain([0, 1, 719, 721, HUGE_32]) {
+        let limit = (length - TWELVE_HOURS).max(0);
+        let after = (length + 1).min(HUGE_32);
+        for arrival in [0, limit, length / 2, length, after] {
+            add(fridays(OwnValue { value: 7, arrival, length }));
+        }
+        let own = Some(OwnValue { value: 7, arrival: limit, length });
+        add(Telemetered { reading: Some(3), own, ..telemetered(28, &[]) });
+        add(Telemetered { own, ..telemetered(28, &[]) });
+    }
+}
+
+/// As if nothing had been sent: the mean, the flow of a new consumer, or no basis; and a reading.
+fn late_values(out: &mut Vec<Operation>) {
+    let mut add = |point: Telemetered| out.push(Operation::Telemetered(point));
+    let histories: [&[Entry]; 6] = [
+        &[],
+        &[Nothing, Own(4), Estimated(6)],
+        // Day 10 is a Monday: the days before are a Sunday, a Saturday and a Friday.
+        &[Real(5), Nothing, Own(8)],
+        &[Real(5), Real(6), Real(9)],
+        &[Real(5), Real(6), Real(9), Nothing, Real(4), Own(3)],
+        &[Real(5), Real(6), Real(9), Nothing, Real(4), Real(2), Real(1), Real(1_000)],
+    ];
+    for length in DAY_LENGTHS {
+        let late = OwnValue { value: 77, arrival: length - TWELVE_HOURS + 1, length };
+        let at_the_end = OwnValue { arrival: length, ..late };
+        for own in [Some(late), Some(at_the_end), None] {
+            for history in histories {
+                let point = Telemetered { own, q_a: Some(315), ..telemetered(10, history) };
+                add(Telemetered { toll_3_4: true, ..point.clone() });
+                add(Telemetered { q_d: Some(1_001), ..point.clone() });
+                add(Telemetered { reading: Some(12), ..point.clone() });
+                add(point);
+            }
+        }
+    }
+}
+
+/// 2 before 16 before 15: each value past its range, beside late and wrong arrivals.
+fn order_of_refusals(out: &mut Vec<Operation>) {
+    let mut add = |point: Telemetered| out.push(Operation::Telemetered(point));
+    let (counts, late, after_the_end) = ((600, 1_440), (1_200, 1_440), (1_441, 1_440));
+    let (no_such_day, before_it) = ((0, 1_410), (700, 719));
+    for (arrival, length) in [counts, late, after_the_end, no_such_day, before_it] {
+        for value in BOUNDS.into_iter().flatten() {
+            let own = OwnValue { value, arrival, length };
+            add(fridays(own));
+            add(Telemetered { reading: Some(3), ..fridays(own) });
+            add(Telemetered { own: Some(own), ..telemetered(10, &[]) });
+        }
+    }
+    for (arrival, length) in [late, after_the_end, no_such_day] {
+        let point = fridays(OwnValue { value: 7, arrival, length });
+        let too_large = Some(MAX_ENERGY + 1);
+        add(Telemetered { day: LAST_DAY + 1, ..point.clone() });
+        add(Telemetered { day: 27, ..point.clone() });
+        add(Telemetered { holidays: vec![3, 3], ..point.clone() });
+        add(Telemetered { reading: too_large, ..point.clone() });
+        add(Telemetered { q_a: too_large, ..point.clone() });
+        add(Telemetered { q_d: Some(HUGE), ..point.clone() });
+        add(Telemetered { f_c: 1_001, ..point.clone() });
+        add(Telemetered { history: vec![Nothing, Real(MAX_ENERGY + 1)], ..point.clone() });
+        let long = Telemetered { day: 5_000, ..point };
+        add(Telemetered { history: vec![Nothing; MAX_HISTORY], ..long.clone() });
+        add(Telemetered { history: vec![Nothing; MAX_HISTORY + 1], ..long.clone() });
+        // Real entries, of Saturdays alone: no basis, if it comes to that.
+        add(Telemetered { day: 5, history: vec![Nothing, Nothing, Nothing, Real(1)], ..long });
+    }
+}
+
 fn entry(greatest: i128, rng: &mut Rng) -> Entry {
     let value = rng.between(0, greatest);
     match rng.below(6) {
@@ -158,6 +274,21 @@ fn entry(greatest: i128, rng: &mut Rng) -> Entry {
         2 => Own(value),
         _ => Real(value),
     }
+}
+
+/// Most arrivals are close to twelve hours before the end, or to the end.
+fn random_own(greatest: i128, rng: &mut Rng) -> OwnValue {
+    let length = match rng.below(10) {
+        0 => rng.between(0, 1_600),
+        1 => rng.pick(&DAY_LENGTHS) + rng.pick(&[-1, 1]),
+        _ => rng.pick(&DAY_LENGTHS),
+    };
+    let arrival = match rng.below(8) {
+        0 => rng.between(0, 1_600),
+        1 => length + rng.between(-1, 1),
+        _ => length - TWELVE_HOURS + rng.between(-3, 3),
+    };
+    OwnValue { value: rng.between(0, greatest), arrival: arrival.max(0), length }
 }
 
 fn random(rng: &mut Rng) -> Telemetered {
@@ -176,7 +307,7 @@ fn random(rng: &mut Rng) -> Telemetered {
         day,
         holidays,
         reading: if rng.one_in(12) { maybe(rng) } else { None },
-        own: if rng.one_in(12) { maybe(rng) } else { None },
+        own: if rng.one_in(3) { Some(random_own(greatest, rng)) } else { None },
         toll_3_4: rng.one_in(2),
         q_a: maybe(rng),
         q_d: maybe(rng),
