@@ -49,6 +49,7 @@ pub use point_day::{
 pub use refusal::Refusal;
 pub use shares::{split, spread};
 pub use supply::{
-    profile, Entry, Estimate, ProfileYear, Telemetered, Toll, Type1OtherToll, Type1Toll34, Type2,
+    profile, Entry, Estimate, OwnValue, ProfileYear, Telemetered, Toll, Type1OtherToll,
+    Type1Toll34, Type2,
 };
 pub use temperature::{degree_days, province, zone, Province};

@@ -3,8 +3,9 @@
 use std::error::Error;
 use std::fmt;
 
-/// Why a call was refused: document 01's number and condition. A refused call changes nothing. If several apply, the lowest number is
-/// given; but a point-day that is not taken is [`Refusal::OutOfRange`] before any other. docs/refusals.md says what to do about each.
+/// Why a call was refused: the documents' number and condition. A refused call changes nothing. If several apply, the lowest number is
+/// given, but [`Refusal::WrongArrival`] right after [`Refusal::OutOfRange`]; and a point-day that is not taken is [`Refusal::OutOfRange`]
+/// before any other. docs/refusals.md says what to do about each.
 ///
 /// ```
 /// use seatpomelo::{PointDay, Refusal};
@@ -47,11 +48,13 @@ pub enum Refusal {
     ShortBuffer = 14,
     /// No basis for an estimate.
     NoBasis = 15,
+    /// A user's own value: the length of the gas day is none of the three, or the arrival exceeds it.
+    WrongArrival = 16,
 }
 
 impl Refusal {
     /// All of them, by number.
-    pub const ALL: [Refusal; 15] = [
+    pub const ALL: [Refusal; 16] = [
         Refusal::WrongStage,
         Refusal::OutOfRange,
         Refusal::NotJoined,
@@ -67,14 +70,15 @@ impl Refusal {
         Refusal::Malformed,
         Refusal::ShortBuffer,
         Refusal::NoBasis,
+        Refusal::WrongArrival,
     ];
 
-    /// Document 01's number, 1 to 15.
+    /// The documents' number, 1 to 16.
     pub fn number(self) -> u8 {
         self as u8
     }
 
-    /// The refusal of a number, as [`crate::raw`] returns it; none of 0 and of numbers past 15.
+    /// The refusal of a number, as [`crate::raw`] returns it; none of 0 and of numbers past 16.
     pub fn from_number(number: u8) -> Option<Refusal> {
         Refusal::ALL.into_iter().find(|refusal| refusal.number() == number)
     }
@@ -102,11 +106,12 @@ impl Refusal {
                 "lent buffer under five numbers a row (inventory) or one a day (reading split)"
             }
             Refusal::NoBasis => "no basis for an estimate",
+            Refusal::WrongArrival => "length is none of the three, or arrival exceeds it",
         }
     }
 }
 
-/// `refused`, the number, and document 01's condition.
+/// `refused`, the number, and the documents' condition.
 impl fmt::Display for Refusal {
     fn fmt(&self, f: &mut fmt::Formatter) -> fmt::Result {
         write!(f, "refused {}: {}", self.number(), self.condition())
@@ -119,6 +124,6 @@ impl Error for Refusal {}
 pub(crate) fn answer(status: u8) -> Result<(), Refusal> {
     match status {
         0 => Ok(()),
-        number => Err(Refusal::from_number(number).expect("a call returns 0 to 15")),
+        number => Err(Refusal::from_number(number).expect("a call returns 0 to 16")),
     }
 }

@@ -36,19 +36,31 @@ impl Entry {
     }
 }
 
+/// A user's own value as it was sent. It is used if it arrived no later than 720 minutes before the gas day ended; a later one is treated as
+/// not sent.
+#[derive(Clone, Copy, Debug, PartialEq, Eq, PartialOrd, Ord, Hash)]
+pub struct OwnValue {
+    /// The value, 0 to 1,000,000,000.
+    pub kwh: u64,
+    /// The minute of its arrival, counted from the start of the gas day, and no later than its end.
+    pub arrival: u32,
+    /// The length of the gas day in minutes: 1,380, 1,440 or 1,500.
+    pub length: u32,
+}
+
 /// A telemetered consumption.
 #[derive(Clone, Copy, Debug, PartialEq, Eq)]
 pub struct Estimate {
     /// The consumption.
     pub consumption: u64,
-    /// Entries of the history looked at; 0 if a reading or own value is used.
+    /// Entries of the history looked at; 0 if a reading or an own value is used.
     pub looked_at: u64,
 }
 
 /// A telemetered supply point on a gas day. Flows, readings and values are 0 to 1,000,000,000.
 ///
 /// ```
-/// use seatpomelo::{Entry, Estimate, Telemetered, Toll};
+/// use seatpomelo::{Entry, Estimate, OwnValue, Telemetered, Toll};
 ///
 /// let point = Telemetered {
 ///     day: 7, // a Friday
@@ -62,6 +74,12 @@ pub struct Estimate {
 ///     history: &[Entry::Real(100), Entry::Nothing, Entry::Real(103)],
 /// };
 /// assert_eq!(point.estimate(), Ok(Estimate { consumption: 102, looked_at: 3 }));
+///
+/// let sent = |arrival| Some(OwnValue { kwh: 90, arrival, length: 1_440 });
+/// let in_time = Telemetered { own: sent(720), ..point };
+/// assert_eq!(in_time.estimate(), Ok(Estimate { consumption: 90, looked_at: 0 }));
+/// let late = Telemetered { own: sent(721), ..point };
+/// assert_eq!(late.estimate(), point.estimate());
 /// ```
 #[derive(Clone, Copy, Debug)]
 pub struct Telemetered<'a> {
@@ -71,8 +89,8 @@ pub struct Telemetered<'a> {
     pub holidays: &'a [u32],
     /// The day's reading.
     pub reading: Option<u64>,
-    /// The user's own value.
-    pub own: Option<u64>,
+    /// The user's own value, if one was sent.
+    pub own: Option<OwnValue>,
     /// The toll.
     pub toll: Toll,
     /// Q_a, a year.
@@ -90,12 +108,16 @@ impl Telemetered<'_> {
     pub fn estimate(&self) -> Result<Estimate, Refusal> {
         let (tags, values): (Vec<u8>, Vec<u64>) =
             self.history.iter().map(|entry| entry.tag_and_value()).unzip();
+        let own = self.own.map(|own| own.kwh);
+        let (arrival, length) = self.own.map_or((0, 0), |own| (own.arrival, own.length));
         let (mut consumption, mut looked_at) = (0, 0);
         answer(raw::telemetered(
             self.day,
             self.holidays,
             self.reading.as_slice(),
-            self.own.as_slice(),
+            own.as_slice(),
+            arrival,
+            length,
             self.toll as u8,
             self.yearly.as_slice(),
             self.daily.as_slice(),

@@ -24,9 +24,9 @@ extern "C" {
     fn seatpomelo_month(day: u32, holidays: *const u32, holiday_count: usize, first: *mut u64, days: *mut u64, mask: *mut u64,
         working: *mut u64) -> u8;
     fn seatpomelo_telemetered(day: u32, holidays: *const u32, holiday_count: usize, reading: *const u64, reading_count: usize,
-        own: *const u64, own_count: usize, toll: u8, yearly: *const u64, yearly_count: usize, daily: *const u64, daily_count: usize,
-        factor: u32, tags: *const u8, tag_count: usize, values: *const u64, value_count: usize, consumption: *mut u64,
-        looked_at: *mut u64) -> u8;
+        own: *const u64, own_count: usize, arrival: u32, day_length: u32, toll: u8, yearly: *const u64, yearly_count: usize,
+        daily: *const u64, daily_count: usize, factor: u32, tags: *const u8, tag_count: usize, values: *const u64, value_count: usize,
+        consumption: *mut u64, looked_at: *mut u64) -> u8;
     fn seatpomelo_type_1_toll_34(day: u32, last_year: *const u64, last_year_count: usize, g: u32, last_days: *const u32,
         last_day_count: usize, last_month: *const u64, last_month_count: usize, yearly: *const u64, yearly_count: usize,
         consumption: *mut u64) -> u8;
@@ -182,6 +182,8 @@ pub fn telemetered(
     holidays: &[u32],
     reading: &[u64],
     own: &[u64],
+    arrival: u32,
+    day_length: u32,
     toll: u8,
     yearly: &[u64],
     daily: &[u64],
@@ -200,6 +202,8 @@ pub fn telemetered(
             reading.len(),
             own.as_ptr(),
             own.len(),
+            arrival,
+            day_length,
             toll,
             yearly.as_ptr(),
             yearly.len(),

@@ -1,4 +1,4 @@
-//! Random telemetered points without reading and own value: a gas day, 2,000 holidays and a history of 400 entries.
+//! Random telemetered points without a reading: a gas day, 2,000 holidays, a history of 400 entries, and an own value or none.
 
 use bench::Random;
 
@@ -14,10 +14,45 @@ const LAST_DAY: u32 = 30_680;
 pub struct Case {
     pub day: u32,
     pub holidays: Vec<u32>,
+    pub own: Option<Own>,
     pub tags: Vec<u8>,
     pub values: Vec<u64>,
     pub day_flow: u64,
     pub factor: u32,
+}
+
+/// A user's own value, the minute of its arrival, and the minutes of the gas day.
+#[derive(Clone, Copy)]
+pub struct Own {
+    pub kwh: u64,
+    pub arrival: u32,
+    pub length: u32,
+}
+
+/// Whether a user sent an own value, and when.
+#[derive(Clone, Copy)]
+pub enum Sent {
+    Not,
+    Late,
+    InTime,
+}
+
+impl Sent {
+    fn draw(self, random: &mut Random) -> Option<Own> {
+        let length = [1_380, 1_440, 1_500][random.below(3) as usize];
+        let limit = length - 720;
+        let arrival = match self {
+            Sent::Not => return None,
+            Sent::Late => limit + 1 + random.below(720) as u32,
+            Sent::InTime => random.below(u64::from(limit) + 1) as u32,
+        };
+        let kwh = random.below(1_000_000_001);
+        Some(Own {
+            kwh,
+            arrival,
+            length,
+        })
+    }
 }
 
 /// Where the search ends.
@@ -30,17 +65,6 @@ pub enum History {
 }
 
 impl History {
-    pub const ALL: [History; 4] = [History::Near, History::Far, History::NoMatch, History::New];
-
-    pub fn name(self) -> &'static str {
-        match self {
-            History::Near => "third match near",
-            History::Far => "third match at the end",
-            History::NoMatch => "real readings, no match",
-            History::New => "no real reading",
-        }
-    }
-
     /// What stands for the day that is so many days before the gas day, a Wednesday.
     fn tag(self, before: usize, random: &mut Random) -> u8 {
         let other = [NOTHING, ESTIMATED, OWN][random.below(3) as usize];
@@ -61,7 +85,7 @@ impl History {
 }
 
 /// A random case of the kind.
-pub fn case(kind: History, random: &mut Random) -> Case {
+pub fn case(kind: History, sent: Sent, random: &mut Random) -> Case {
     let wednesday = 7 * (ENTRIES as u32 + random.below(4_000) as u32) + 5;
     let mut days: Vec<u32> = (0..=LAST_DAY)
         .filter(|&day| !(wednesday - ENTRIES as u32..=wednesday).contains(&day))
@@ -73,6 +97,7 @@ pub fn case(kind: History, random: &mut Random) -> Case {
     Case {
         day: wednesday,
         holidays,
+        own: sent.draw(random),
         tags: (1..=ENTRIES)
             .map(|before| kind.tag(before, random))
             .collect(),

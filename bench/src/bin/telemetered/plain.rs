@@ -6,6 +6,7 @@ const LIMIT: u64 = 1_000_000_000;
 const LAST_DAY: u32 = 30_680;
 const OUT_OF_RANGE: u64 = LIMIT + 2;
 const NO_BASIS: u64 = LIMIT + 15;
+const WRONG_ARRIVAL: u64 = LIMIT + 16;
 
 #[derive(Clone, Copy, PartialEq)]
 enum DayType {
@@ -17,6 +18,14 @@ enum DayType {
 pub fn estimate(case: &Case) -> u64 {
     if !in_range(case) {
         return OUT_OF_RANGE;
+    }
+    if let Some(own) = case.own {
+        if !matches!(own.length, 1_380 | 1_440 | 1_500) || own.arrival > own.length {
+            return WRONG_ARRIVAL;
+        }
+        if own.arrival + 720 <= own.length {
+            return own.kwh;
+        }
     }
     let wanted = day_type(case.day, &case.holidays);
     let (mut sum, mut matches, mut real) = (0, 0, false);
@@ -46,6 +55,7 @@ fn in_range(case: &Case) -> bool {
         && holidays.len() <= 2_000
         && holidays.windows(2).all(|pair| pair[0] < pair[1])
         && holidays.last().is_none_or(|&last| last <= LAST_DAY)
+        && case.own.is_none_or(|own| own.kwh <= LIMIT)
         && case.day_flow <= LIMIT
         && case.factor <= 1_000
         && entries == case.values.len()
