@@ -21,8 +21,8 @@
 extern "C" {
 #endif
 
-/* ---- Status. If several refusals apply, the lowest number decides, but 16 comes right after 2; and a point-day that is not taken is 2 before
-   any other test. */
+/* ---- Status. If several refusals apply, the lowest number decides, but 16 comes right after 2; and a point-day that is not taken is 2
+   before any other test. */
 
 #define SEATPOMELO_DONE 0                  /* The call was made. */
 #define SEATPOMELO_WRONG_STAGE 1           /* The stage doesn't take the call, or a stand-in finds a user joined. */
@@ -40,7 +40,7 @@ extern "C" {
 #define SEATPOMELO_MALFORMED 13            /* The day file is malformed. */
 #define SEATPOMELO_SHORT_BUFFER 14         /* `out` is under five numbers a row, one a day or party, or 8,192 bytes. */
 #define SEATPOMELO_NO_BASIS 15             /* No basis for an estimate. */
-#define SEATPOMELO_WRONG_ARRIVAL 16        /* A user's own value: the gas day has none of its three lengths, or the value arrived after its end. */
+#define SEATPOMELO_WRONG_ARRIVAL 16        /* An own value: the gas day has none of its three lengths, or it arrived after the day. */
 
 /* ---- Kinds of consumption. */
 
@@ -156,9 +156,9 @@ uint8_t seatpomelo_month(uint32_t day, const uint32_t *holidays, size_t holiday_
 #define SEATPOMELO_OWN_VALUE 3             /* The user's own value. */
 
 /* Telemetered. reading, own (the user's own value), yearly (Q_a, kWh a year) and daily (Q_d, kWh a day) are optional; factor is f_c, 0 to
-   1,000 thousandths. An own value arrived at the minute `arrival` of the gas day, which has day_length minutes, 1,380, 1,440 or 1,500: it is
-   used if that was no later than 720 minutes before the day's end, and else treated as not sent; where none is sent neither is looked at. The
-   history, nearest day first, is two lists of one length, 0 to 400 and no more than `day`: tags and values (kWh).
+   1,000 thousandths. An own value arrived at the minute `arrival` of the gas day, which has day_length minutes, 1,380, 1,440 or 1,500: it
+   is used if that was no later than 720 minutes before the day's end, and else treated as not sent; where none is sent neither is looked
+   at. The history, nearest day first, is two lists of one length, 0 to 400 and no more than `day`: tags and values (kWh).
    consumption; looked_at: the entries looked at. */
 uint8_t seatpomelo_telemetered(uint32_t day, const uint32_t *holidays, size_t holiday_count, const uint64_t *reading, size_t reading_count,
                                const uint64_t *own, size_t own_count, uint32_t arrival, uint32_t day_length, uint8_t toll,

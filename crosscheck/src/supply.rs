@@ -26,7 +26,7 @@ pub const MAX_PROFILE: i128 = 1_000_000_000_000;
 
 /// The minutes that a gas day may have.
 pub const DAY_LENGTHS: [i128; 3] = [1_380, 1_440, 1_500];
-/// "It is used if arrival is at most length − 720."
+/// "It is used if arrival is at most length − 720"
 pub const TWELVE_HOURS: i128 = 720;
 
 /// A user's own value, as it was sent.
@@ -125,7 +125,7 @@ impl Telemetered {
         if self.own.is_some_and(|own| !own.came_in_a_gas_day()) {
             return Err(Refusal::WrongArrival);
         }
-        // "A later value is treated as not sent."
+        // "A later value is treated as not sent"
         let own = self.own.filter(OwnValue::counts);
         if let Some(value) = self.reading.or(own.map(|own| own.value)) {
             return Ok((value, 0));

@@ -28,7 +28,8 @@
 //! a late reading over the days of its period ([`spread`]); an amount over weights ([`split`]).
 //!
 //! Energy is in kWh where nothing else is said. A call that is not made gives a [`Refusal`], and changes nothing. Each call does what
-//! document 01 says, and that is proved; what is written in Rust here only names numbers and puts lists together.
+//! document 01 says, with Req 01 of document 02, and that is proved; what is written in Rust here only names numbers and puts lists
+//! together.
 #![deny(missing_docs, unsafe_code)]
 
 mod calendar;

@@ -38,7 +38,7 @@ impl Entry {
 
 /// A user's own value as it was sent. It is used if it arrived no later than 720 minutes before the gas day ended; a later one is treated as
 /// not sent.
-#[derive(Clone, Copy, Debug, PartialEq, Eq, PartialOrd, Ord, Hash)]
+#[derive(Clone, Copy, Debug, PartialEq, Eq)]
 pub struct OwnValue {
     /// The value, 0 to 1,000,000,000.
     pub kwh: u64,

@@ -35,7 +35,7 @@ fn refusals() {
         assert_eq!(Refusal::from_number(refusal.number()), Some(refusal));
     }
     assert_eq!(
-        (constants["DONE"], Refusal::from_number(0), Refusal::from_number(16)),
+        (constants["DONE"], Refusal::from_number(0), Refusal::from_number(17)),
         (0, None, None)
     );
 }

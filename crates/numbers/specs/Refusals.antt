@@ -1,4 +1,4 @@
--- Document 01, section "Refusals": the table, a call's tests, and the first that holds. Assumes nothing.
+-- Document 01, section "Refusals", and the rows of document 02: the table, a call's tests, and the first that holds. Assumes nothing.
 use Rattle.std.specs.Prelude.{Bool, List, [], ◌∷◌, ◌≡◌, ℕ}
 use Rattle.std.specs.Prelude.{Result, Ok, Err}
 use Rattle.numbers.specs.declared.Refusal.{Refusal}
@@ -67,7 +67,7 @@ SHORT_BUFFER = 14
 abbrev pub NO_BASIS : ℕ
 NO_BASIS = 15
 
--- document 02, Req 01: "length is none of the three, or arrival exceeds it"
+-- document 02, Req 01: "length is none of the three, or arrival exceeds it; checked right after 2"
 abbrev pub WRONG_ARRIVAL : ℕ
 WRONG_ARRIVAL = 16
 
@@ -87,14 +87,14 @@ pub data Verdict : Type 0 where
   refuse : ℕ → Verdict
   accept : Verdict
 
--- "If several apply, the row higher up decides"
+-- "If several apply, the row higher up decides"; a call's tests stand in that order, 16 right after those of 2
 unfoldable pub verdict : List Test → Verdict
 verdict [] = accept
 verdict (t ∷ ts) = pick t.holds (refuse t.number) (verdict ts)
 
 -- ---- the code's enum
 
--- document 01's number of each case
+-- the documents' number of each case
 abbrev pub number_of : Refusal → ℕ
 number_of WrongStage = WRONG_STAGE
 number_of OutOfRange = OUT_OF_RANGE
@@ -117,7 +117,7 @@ number_of WrongArrival = WRONG_ARRIVAL
 abbrev pub Numbers : Refusal → ℕ → Type 0
 Numbers r n = n ≡ number_of r
 
--- 0, or document 01's number of the refusal
+-- 0, or the documents' number of the refusal
 abbrev pub status_of : {A : Type 0} → Result A Refusal → ℕ
 status_of (Ok _) = 0
 status_of (Err r) = number_of r

@@ -13,7 +13,7 @@ ghost use Rattle.numbers.specs.Nearest.{nearest};
 
 // ---- the table of document 01, section "Refusals", and the rows that document 02 adds
 
-// A refusal; its number is document 01's.
+// A refusal; its number is the documents'.
 #[derive(Clone, Copy, Debug, PartialEq, Eq)]
 pub enum Refusal {
     // "the stage doesn't take the call, or a stand-in finds a user joined"

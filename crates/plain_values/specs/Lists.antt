@@ -99,3 +99,8 @@ reading_first = refl
 own_in_time : flat [] (6 ∷ []) 0 [] [] ≡ given (record { kwh = 6; looked = 0 })
 unfolding telemetered values_right tested verdict calendar_right holidays_right rising every has flows_right history_right entries_in table reading_in
 own_in_time = refl
+
+-- where none is sent, arrival and length go for nothing
+none_sent : telemetered 10 [] (amount_in (5 ∷ [])) (own_in [] 9999 7) (flows_in 0 [] [] 750) 0 [] ≡ given (record { kwh = 5; looked = 0 })
+unfolding telemetered values_right tested verdict calendar_right holidays_right rising every flows_right history_right
+none_sent = refl

@@ -16,7 +16,7 @@ pub record Settled : Type 0 where
 abbrev pub settled : ℕ → List ℕ → Settled
 settled n vs = record { status = n; values = vs }
 
--- 0 and the values of an answer; or document 01's number of a refusal, and the numbers that were there before
+-- 0 and the values of an answer; or the documents' number of a refusal, and the numbers that were there before
 abbrev pub settles : {A : Type 0} → (A → List ℕ) → Answer A → List ℕ → Settled
 settles values (refused n) before = settled n before
 settles values (given a) before = settled 0 (values a)

@@ -54,7 +54,7 @@ past_the_limit : (point None (own 5 661 1380) ≡ mean) × (point None (own 5 72
 unfolding telemetered values_right tested verdict calendar_right holidays_right rising every flows_right history_right has from_history dated real_readings matching last_three sum_of mean_value looked_at is_new day_type total nearest
 past_the_limit = (refl, refl, refl)
 
--- "arrival exceeds it": not at the length itself
+-- "length is none of the three, or arrival exceeds it": at the length itself it doesn't
 at_the_length : (point None (own 5 1440 1440) ≡ mean) × (point None (own 5 1441 1440) ≡ refused 16) × (point None (own 5 0 1410) ≡ refused 16)
 unfolding telemetered values_right tested verdict calendar_right holidays_right rising every flows_right history_right has from_history dated real_readings matching last_three sum_of mean_value looked_at is_new day_type total nearest
 at_the_length = (refl, refl, refl)
@@ -62,6 +62,6 @@ at_the_length = (refl, refl, refl)
 -- 2, then 16, a reading or not, then 15
 in_order : (point None (own 1000000001 1440 1440) ≡ refused 2) × (point None (own 1000000001 1441 1440) ≡ refused 2)
     × (point (Some 5) (own 5 1441 1440) ≡ refused 16) × (telemetered 5 [] None (own 5 1441 1440) no_flows 0 [] ≡ refused 16)
-    × (telemetered 5 [] None (own 5 1440 1440) no_flows 0 [] ≡ refused 15)
+    × (telemetered 5 [] None (own 5 1440 1440) no_flows 0 [] ≡ refused 15) × (telemetered 5 [] (Some 5) (own 5 1441 1440) no_flows 6 [] ≡ refused 2)
 unfolding telemetered values_right tested verdict calendar_right holidays_right rising every flows_right history_right has from_history dated real_readings matching last_three is_new new_consumption
-in_order = (refl, refl, refl, refl, refl)
+in_order = (refl, refl, refl, refl, refl, refl)

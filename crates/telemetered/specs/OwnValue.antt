@@ -9,8 +9,8 @@ abbrev pub value_sent : Option OwnValue → Option ℕ
 value_sent None = None
 value_sent (Some v) = Some v.kwh
 
--- "its arrival minute, counted from the start of the gas day, and .. the length of that day: 1,380, 1,440 or 1,500 minutes"; 16 where "length is
--- none of the three, or arrival exceeds it". A value not sent has neither.
+-- "its arrival minute, counted from the start of the gas day, and .. the length of that day: 1,380, 1,440 or 1,500 minutes"; 16 where
+-- "length is none of the three, or arrival exceeds it". A value not sent has neither.
 abbrev pub arrival_right : Option OwnValue → Bool
 arrival_right None = true
 arrival_right (Some v) = both (has v.length (1380 ∷ 1440 ∷ 1500 ∷ [])) (leb v.arrival v.length)

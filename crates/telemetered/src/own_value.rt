@@ -14,7 +14,7 @@ pub struct OwnValue {
 // A gas day has 23, 24 or 25 hours.
 const LENGTHS: [u32; 3] = [1380, 1440, 1500];
 
-// A value that is used came so many minutes before the gas day ended.
+// A value that is used came at least so many minutes before the gas day ended.
 const NOTICE: u32 = 720;
 
 // The value as it was sent, in time or not.

@@ -14,11 +14,11 @@ const LAST_DAY: u32 = 30_680;
 pub struct Case {
     pub day: u32,
     pub holidays: Vec<u32>,
-    pub own: Option<Own>,
     pub tags: Vec<u8>,
     pub values: Vec<u64>,
     pub day_flow: u64,
     pub factor: u32,
+    pub own: Option<Own>,
 }
 
 /// A user's own value, the minute of its arrival, and the minutes of the gas day.
@@ -39,12 +39,14 @@ pub enum Sent {
 
 impl Sent {
     fn draw(self, random: &mut Random) -> Option<Own> {
+        if let Sent::Not = self {
+            return None;
+        }
         let length = [1_380, 1_440, 1_500][random.below(3) as usize];
         let limit = length - 720;
         let arrival = match self {
-            Sent::Not => return None,
             Sent::Late => limit + 1 + random.below(720) as u32,
-            Sent::InTime => random.below(u64::from(limit) + 1) as u32,
+            _ => random.below(u64::from(limit) + 1) as u32,
         };
         let kwh = random.below(1_000_000_001);
         Some(Own {
@@ -97,12 +99,12 @@ pub fn case(kind: History, sent: Sent, random: &mut Random) -> Case {
     Case {
         day: wednesday,
         holidays,
-        own: sent.draw(random),
         tags: (1..=ENTRIES)
             .map(|before| kind.tag(before, random))
             .collect(),
         values: (0..ENTRIES).map(|_| random.below(1_000_000_001)).collect(),
         day_flow: random.below(1_000_000_001),
         factor: random.below(1_001) as u32,
+        own: sent.draw(random),
     }
 }

@@ -7,7 +7,7 @@ use crate::cases::Case;
 /// What a refusal is counted from, as the plain calculation has it.
 const LIMIT: u64 = 1_000_000_000;
 
-/// The consumption, or 1,000,000,000 and document 01's number of the refusal. Any arguments will do: the call tests them itself.
+/// The consumption, or 1,000,000,000 and the number of the refusal. Any arguments will do: the call tests them itself.
 pub fn estimate(case: &Case) -> u64 {
     const OTHER_TOLL: u8 = 0;
     let own = case.own.map(|own| own.kwh);
