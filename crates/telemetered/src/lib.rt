@@ -41,7 +41,9 @@ fn from_found(found: Found, flows: Flows) -> Result<Estimate, Refusal>
     Ok(Estimate { kwh, looked })
 }
 
-// Whether the reading, the user's own value and the contracted flows are in their ranges, or missing.
+// Whether the reading, the user's own value and the contracted flows are in their ranges, or missing. (A call of its own: the loops of the
+// history have the registers to themselves.)
+#[inline(never)]
 fn are_amounts(reading: Option<u64>, own: Option<OwnValue>, flows: Flows) -> bool
     ensures { result ≡ both (amount_right reading) (both (amount_right (value_sent own)) (flows_right flows)) }
 {
