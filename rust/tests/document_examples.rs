@@ -1,8 +1,8 @@
-//! Document 01, "Examples": P1 to P10, and the faults that a refusal must not have.
+//! Document 01, "Examples": P1 to P10, and the faults that a refusal must not have. Document 02, by its requests.
 
 use seatpomelo::{
-    day_report, degree_days, month, split, zone, Entry, Estimate, Kind, Lines, PointDay, Refusal,
-    Revision, Stage, Telemetered, Toll, Type1OtherToll, STAND_IN_ROWS,
+    day_report, degree_days, month, split, zone, Entry, Estimate, Kind, Lines, OwnValue, PointDay,
+    Refusal, Revision, Stage, Telemetered, Toll, Type1OtherToll, STAND_IN_ROWS,
 };
 
 const E: &[u8] = include_bytes!("../../examples/E.rep");
@@ -188,4 +188,23 @@ fn raw_calls_refuse_lists_that_are_too_short() {
     assert_eq!(seatpomelo::raw::day_report(E, &mut [0; 8_191], &mut written), 14);
     assert_eq!((rows, written), (77, 77));
     assert_eq!(seatpomelo::raw::fresh(&mut [0; 1_093]), 2);
+}
+
+#[test]
+fn req_01_an_own_value_counts_until_720_minutes_before_the_end() {
+    let history = [Entry::Real(8)];
+    let came = |arrival, length| {
+        let own = Some(OwnValue { kwh: 5, arrival, length });
+        Telemetered { own, ..point(14, &history) }.estimate()
+    };
+    let used = Ok(Estimate { consumption: 5, looked_at: 0 });
+    let mean = Ok(Estimate { consumption: 8, looked_at: 1 });
+    for (length, limit) in [(1_380, 660), (1_440, 720), (1_500, 780)] {
+        assert_eq!(
+            [came(limit, length), came(limit + 1, length), came(length, length)],
+            [used, mean, mean]
+        );
+        assert_eq!(came(length + 1, length), Err(Refusal::WrongArrival));
+    }
+    assert_eq!(came(0, 1_410), Err(Refusal::WrongArrival));
 }
