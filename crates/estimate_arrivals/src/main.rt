@@ -1,4 +1,5 @@
-// Runs calls on supply points, readings and the calendar from standard input; the stored ones have own values with their arrivals, and end with one cut short.
+// Runs calls on supply points, readings and the calendar from standard input; the stored ones have own values with their arrivals, and end
+// with one cut short.
 #![tactic(auto)]
 
 use std::io;

@@ -18,13 +18,13 @@ use Rattle.point_day.specs.Calls.{line_right}
 use Rattle.point_day.specs.declared.Measurement.{Measurement}
 use Rattle.point_day.specs.declared.PointDay.{PointDay}
 use Rattle.point_day.proofs.Back.{flat_snoc}
-use Rattle.line.specs.Cell.{line_losses, past_limit}
+use Rattle.line.specs.Cell.{past_limit}
 use Rattle.line.specs.declared.cells.LineEntry.{LineEntry}
 use Rattle.day_book.specs.Run.{Call, line}
 use Rattle.day_file.specs.Report.{refused, in_order}
 use Rattle.file_lines.specs.declared.lines.Entering.{Entering}
-use Rattle.file_lines.specs.Entering.{Entered, day_of, ComesTo}
-use Rattle.file_lines.specs.Pieces.{line_refusal, lined}
+use Rattle.file_lines.specs.Entering.{HoldsAt, day_of, ComesTo}
+use Rattle.file_lines.specs.Pieces.{line_refusal, offtake_with, lined}
 use Rattle.file_lines.proofs.Steps.{line_out, line_past, line_added, line_entered}
 
 -- the calls lead from one point-day to another; the calls stop with a refusal
@@ -73,14 +73,6 @@ flat_rest f n t l = ap flat (table_rest f n t l) ∙ flat_append (table f n) (ta
 
 -- ---- a line
 
--- what `Holds` says, of a sum that is kept apart from the arrays
-abbrev pub HoldsAt : ℕ → Entering → ℕ → Type 0
-HoldsAt n e x = Entered n e.users e.consumption e.losses x
-
--- such a sum with a line
-abbrev pub with_line : LineEntry → ℕ → ℕ
-with_line l x = x + (l.consumption + line_losses l.consumption l.coefficient)
-
 module _ (i : ℕ) (e : Entering) {x : ℕ} (s : HoldsAt (i + 1) e x) (l : LineEntry) (here : get_or e.users i 0 ≡ l.user) where
   abbrev call : Call
   call = line l.user l.kind l.consumption l.coefficient
@@ -94,11 +86,11 @@ module _ (i : ℕ) (e : Entering) {x : ℕ} (s : HoldsAt (i + 1) e x) (l : LineE
       go true f true k = let z : number_of n ≡ 6 = h ∙ rw (f, k) in line_past i s l.user l.kind l.consumption l.coefficient here f k g m rest r ∙ ap refused (sym z)
       go true f false k = absurd (refused_not_0 n (h ∙ rw (f, k)))
 
-  pub line_goes : 0 ≡ line_refusal l x → HoldsAt (i + 1) (lined i l e) (with_line l x) × Leads (call ∷ []) (day_of e (i + 1)) (day_of (lined i l e) (i + 1))
+  pub line_goes : 0 ≡ line_refusal l x → HoldsAt (i + 1) (lined i l e) (offtake_with l x) × Leads (call ∷ []) (day_of e (i + 1)) (day_of (lined i l e) (i + 1))
   line_goes h = go (line_right l.user l.kind l.consumption l.coefficient) refl (past_limit x l.consumption l.coefficient) refl
     where
       go : (b : Bool) → line_right l.user l.kind l.consumption l.coefficient ≡ b → (d : Bool) → past_limit x l.consumption l.coefficient ≡ d
-          → HoldsAt (i + 1) (lined i l e) (with_line l x) × Leads (call ∷ []) (day_of e (i + 1)) (day_of (lined i l e) (i + 1))
+          → HoldsAt (i + 1) (lined i l e) (offtake_with l x) × Leads (call ∷ []) (day_of e (i + 1)) (day_of (lined i l e) (i + 1))
       go false f d k = absurd (let z : 0 ≡ 2 = h ∙ rw f in omega arith)
       go true f true k = absurd (let z : 0 ≡ 6 = h ∙ rw (f, k) in omega arith)
       go true f false k = (line_entered i s l.user l.kind l.consumption l.coefficient here f k, line_added i s l.user l.kind l.consumption l.coefficient here f k)

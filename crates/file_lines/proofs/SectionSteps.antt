@@ -17,10 +17,10 @@ use Rattle.day_file.specs.declared.Section.{Section}
 use Rattle.day_file.specs.Form.{USER, LINE, u8, u16, u32, pair_count, section_at, sections, line_count}
 use Rattle.day_file.specs.File.{user_of, line_at, section_calls}
 use Rattle.file_lines.specs.declared.lines.Entering.{Entering}
-use Rattle.file_lines.specs.Entering.{day_of, Holds}
-use Rattle.file_lines.specs.Pieces.{user_refusal, joined, line_refusal, lined}
+use Rattle.file_lines.specs.Entering.{day_of, HoldsAt, Holds}
+use Rattle.file_lines.specs.Pieces.{user_refusal, joined, line_refusal, offtake_with, lined}
 use Rattle.file_lines.proofs.Steps.{user_joined, user_refused}
-use Rattle.file_lines.proofs.Leading.{HoldsAt, with_line, Leads, Stops, leads_then, leads_stop, stops_there, table_rest, table_next, flat_next, flat_rest, line_goes, line_stops}
+use Rattle.file_lines.proofs.Leading.{Leads, Stops, leads_then, leads_stop, stops_there, table_rest, table_next, flat_next, flat_rest, line_goes, line_stops}
 
 -- a user's line as it stands in the file from a place on
 abbrev pub entry_at : List ℕ → ℕ → ℕ → LineEntry
@@ -56,11 +56,11 @@ module _ (f : List ℕ) (s : Section) (i : ℕ) (e₀ : Entering) where
     is_entry : l ≡ entry
     is_entry = p ∙ ap (λ u. entry_at f u (s.offset + USER + LINE * j)) q
 
-    pub one_more_line : {e' : Entering} {x' : ℕ} → 0 ≡ line_refusal l x → x' ≡ with_line l x → e' ≡ lined i l e → Lines e' x' (j + 1)
+    pub one_more_line : {e' : Entering} {x' : ℕ} → 0 ≡ line_refusal l x → x' ≡ offtake_with l x → e' ≡ lined i l e → Lines e' x' (j + 1)
     one_more_line {e'} w y k =
         let goes = line_goes i e so_far.holds entry so_far.here (w ∙ ap (λ (l : LineEntry). line_refusal l x) is_entry) in
-        subst (λ x. Lines e' x (j + 1)) (sym (y ∙ ap (λ l. with_line l x) is_entry))
-        (subst (λ e. Lines e (with_line entry x) (j + 1)) (sym (k ∙ ap (λ l. lined i l e) is_entry)) (record {
+        subst (λ x. Lines e' x (j + 1)) (sym (y ∙ ap (λ l. offtake_with l x) is_entry))
+        (subst (λ e. Lines e (offtake_with entry x) (j + 1)) (sym (k ∙ ap (λ l. lined i l e) is_entry)) (record {
           room = so_far.room;
           here = so_far.here;
           holds = goes.0;

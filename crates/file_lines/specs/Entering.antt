@@ -27,12 +27,15 @@ pub record Entered (n : ℕ) (us : List ℕ) (cs ls : List ℤ) (offtake : ℕ) 
   pub taken : (m : Option Measurement) → measurement_right m ≡ true → taken (entering n us cs ls m) ≡ true
   pub sum : offtake ≡ all_offtake (read (entering n us cs ls None)).users
 
--- the same of the arrays with their sum
+-- the same of the arrays, with a sum beside them or with their own
 abbrev pub day_of : Entering → ℕ → Option Measurement → PointDay
 day_of e n = entering n e.users e.consumption e.losses
 
+abbrev pub HoldsAt : ℕ → Entering → ℕ → Type 0
+HoldsAt n e offtake = Entered n e.users e.consumption e.losses offtake
+
 abbrev pub Holds : ℕ → Entering → Type 0
-Holds n e = Entered n e.users e.consumption e.losses e.offtake
+Holds n e = HoldsAt n e e.offtake
 
 -- what an answer promises where it is no refusal
 abbrev pub UnlessRefused : {A : Type 0} → Result A Refusal → Type 0 → Type 0

@@ -1,5 +1,5 @@
 -- What a line and a user of a day file come to, by their numbers, and what they leave. Assumes nothing. No exported contract leans on it.
-use Rattle.std.specs.Prelude.{List, ℕ, leb, eqb, take, pos, replicate, set}
+use Rattle.std.specs.Prelude.{List, ℕ, ◌+◌, leb, eqb, take, pos, replicate, set}
 use Rattle.numbers.specs.Sums.{pick}
 use Rattle.numbers.specs.Lists.{has}
 use Rattle.point_day.specs.Limits.{USERS, CELLS}
@@ -18,6 +18,10 @@ nothing_entered = record { users = replicate USERS 0; consumption = replicate CE
 -- the number of the refusal, or 0
 abbrev pub line_refusal : LineEntry → ℕ → ℕ
 line_refusal e offtake = pick (line_right e.user e.kind e.consumption e.coefficient) (pick (past_limit offtake e.consumption e.coefficient) 6 0) 2
+
+-- all consumption and losses with the line, where they were `offtake` before
+abbrev pub offtake_with : LineEntry → ℕ → ℕ
+offtake_with e offtake = offtake + (e.consumption + line_losses e.consumption e.coefficient)
 
 -- the line at the cell of a slot; the sum of all lines is kept apart
 abbrev pub lined : ℕ → LineEntry → Entering → Entering

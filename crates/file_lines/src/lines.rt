@@ -3,9 +3,9 @@ ghost use Rattle.std.specs.Prelude.{◌≡◌, ◌+◌, ◌≤◌, ◌<◌, eqb,
 ghost use Rattle.numbers.specs.Sums.{pick};
 ghost use Rattle.numbers.specs.Refusals.{status_of};
 ghost use Rattle.point_day.specs.Limits.{USERS, LIMIT};
-ghost use Rattle.line.specs.Cell.{line_losses, Limited};
+ghost use Rattle.line.specs.Cell.{Limited};
 ghost use Rattle.day_file.specs.Form.{LINE, u8, u16, u32};
-ghost use Rattle.file_lines.specs.Pieces.{user_refusal, joined, line_refusal, lined, nothing_entered};
+ghost use Rattle.file_lines.specs.Pieces.{user_refusal, joined, line_refusal, offtake_with, lined, nothing_entered};
 
 use day_file::{COEFFICIENT, CONSUMPTION, LINE};
 use line::cells;
@@ -73,7 +73,7 @@ impl Entering {
     pub fn line(&mut self, slot: usize, entry: LineEntry, offtake: u64) -> Result<u64, Refusal>
         requires { (slot < USERS) × (offtake ≤ LIMIT) × Limited self.old.consumption × Limited self.old.losses }
         ensures value { status_of result ≡ line_refusal entry offtake }
-        ensures with_line { IfOk result (λ sum. sum ≡ offtake + (entry.consumption + line_losses entry.consumption entry.coefficient)) }
+        ensures sum { IfOk result (λ sum. sum ≡ offtake_with entry offtake) }
         ensures after { self.new ≡ pick (eqb (status_of result) 0) (lined slot entry self.old) self.old }
     {
         if !entry.is_right() {

@@ -1,4 +1,5 @@
-// Values that stand in lists of numbers: an optional amount, the user's own value, contracted flows, a history. What has no meaning becomes a value out of its range.
+// Values that stand in lists of numbers: an optional amount, the user's own value, contracted flows, a history. What has no meaning becomes a
+// value out of its range.
 #![tactic(auto)]
 
 ghost use Rattle.std.specs.Prelude.{◌≡◌, length};

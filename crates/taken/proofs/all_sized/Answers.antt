@@ -1,5 +1,5 @@
 -- `taken::all_sized` decides. Assumes nothing.
-use Rattle.std.proofs.Common.{rules, ◌≡◌, sym, ◌∙◌, true, ◌*◌, ◌≤◌, length, arith}
+use Rattle.std.proofs.Common.{sym, ◌∙◌, ◌*◌, ◌≤◌, length, arith}
 use Rattle.numbers.proofs.Lists.{true≢false}
 use Rattle.point_day.specs.Limits.{KINDS}
 use Rattle.taken.proofs.Sizes.{all_sized, balances_limited, revisions_limited}

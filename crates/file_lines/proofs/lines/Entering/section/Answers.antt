@@ -48,7 +48,7 @@ returns-in_err-offtake-clause-comes_to c =
 pub loop-j-preserved : goal.loop-j-preserved
 loop-j-preserved c =
     let a = c.args in
-    one_more_line a.file.now.bytes.now c.section-section.result a.i a.self.now c.loop-j.invariant c.read-user.ensures.0 c.read_line-entry.ensures c.in_ok-offtake.ensures.value c.in_ok-offtake.ensures.with_line c.in_ok-offtake.ensures.after
+    one_more_line a.file.now.bytes.now c.section-section.result a.i a.self.now c.loop-j.invariant c.read-user.ensures.0 c.read_line-entry.ensures c.in_ok-offtake.ensures.value c.in_ok-offtake.ensures.sum c.in_ok-offtake.ensures.after
 
 pub returns : goal.returns
 returns c =
