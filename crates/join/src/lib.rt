@@ -1,13 +1,13 @@
 // Join: a user enters the point-day.
 #![tactic(auto)]
 
-ghost use Rattle.std.specs.Prelude.{◌≡◌, true, ◌≤◌, ◌<◌};
-ghost use Rattle.numbers.specs.Refusals.{status_of};
+ghost use Rattle.std.specs.Prelude.{◌≡◌, true, ◌≤◌, ◌<◌, IfOk};
+ghost use Rattle.numbers.specs.Refusals.{OUT_OF_RANGE, status_of};
 ghost use Rattle.point_day.specs.Limits.{USERS};
 ghost use Rattle.point_day.specs.Calls.{join};
 ghost use Rattle.point_day.specs.Answers.{answer_of};
 ghost use Rattle.point_day.specs.Struct.{outcome, called};
-ghost use Rattle.taken.specs.Tested.{Finds};
+ghost use Rattle.taken.specs.Tested.{Finds, FindsOf};
 ghost use Rattle.join.specs.Appended.{appended, Tested};
 
 use numbers::Refusal;
@@ -30,7 +30,7 @@ fn append(day: PointDay, user: u16) -> PointDay
 }
 
 // The tests of a join on a taken point-day, of which `state` is the test.
-pub fn join_test(state: &State, user: u16) -> Result<(), Refusal>
+pub fn taken_test(state: &State, user: u16) -> Result<(), Refusal>
     requires { state.now.count ≤ USERS }
     ensures { Finds state.now (λ d. Tested user d (status_of result)) }
 {
@@ -50,11 +50,22 @@ pub fn join_test(state: &State, user: u16) -> Result<(), Refusal>
     Ok(())
 }
 
+// The tests of a join on a point-day of which `test` is the test: one that is not taken is refused by 2.
+pub fn join_test(test: &Result<State, Refusal>, user: u16) -> Result<(), Refusal>
+    requires { IfOk test.now (λ s. s.count ≤ USERS) }
+    ensures { FindsOf test.now (status_of result ≡ OUT_OF_RANGE) (λ d. Tested user d (status_of result)) }
+{
+    match test {
+        Ok(state) => taken_test(state, user),
+        Err(_) => Err(Refusal::OutOfRange),
+    }
+}
+
 // The tests of a join, that of the point-day first.
 fn tests(day: &PointDay, user: u16) -> Result<(), Refusal>
     ensures { Tested user day.now (status_of result) }
 {
-    join_test(&taken::test_day(day)?, user)
+    join_test(&taken::test_day(day), user)
 }
 
 // Join: adds a user.

@@ -26,3 +26,8 @@ values_of (is.RevisionAssigned R) = revision_assigned R
 abbrev pub answer_of : Result code.Accepted Refusal → Answer
 answer_of (Err r) = refused (number_of r)
 answer_of (Ok a) = values_of a
+
+-- what an answer by number stands for
+abbrev pub numbered : Result code.Accepted ℕ → Answer
+numbered (Err n) = refused n
+numbered (Ok a) = values_of a

@@ -5,7 +5,7 @@ ghost use Rattle.std.specs.Prelude.{◌≡◌, pos, replicate};
 ghost use Rattle.point_day.specs.Limits.{USERS, CELLS};
 ghost use Rattle.point_day.specs.Day.{fresh};
 ghost use Rattle.numbers.specs.Refusals.{number_of};
-ghost use Rattle.point_day.specs.Answers.{refused, values_of, answer_of};
+ghost use Rattle.point_day.specs.Answers.{refused, values_of, answer_of, numbered};
 ghost use Rattle.point_day.specs.Struct.{laid, outcome};
 
 use numbers::Refusal;
@@ -98,6 +98,13 @@ pub fn refuse(refusal: Refusal, day: PointDay) -> Outcome
         answer: Err(refusal),
         day,
     }
+}
+
+// A call refused by any number, also one that no call refuses by, and the point-day as it was. (Beside `refuse`: an `Outcome` holds a refusal.)
+pub fn refuse_by(number: u8, day: PointDay) -> (Result<Accepted, u8>, PointDay)
+    ensures { outcome (numbered result.0) result.1 ≡ outcome (refused number) day }
+{
+    (Err(number), day)
 }
 
 // An accepted call: its values, and the point-day afterwards.

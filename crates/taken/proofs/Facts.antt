@@ -1,5 +1,5 @@
 -- What a taken point-day has, place by place. Assumes nothing.
-use mathlib.Core.Path.{◌≡◌, refl, sym, ap, ◌∙◌}
+use mathlib.Core.Path.{◌≡◌, refl, sym, ap, subst, ◌∙◌}
 use mathlib.Core.Bool.{Bool, true, false, not}
 use mathlib.Core.List.{List, [], ◌∷◌, ◌++◌, map}
 use mathlib.Core.Logic.{⊎_elim}
@@ -31,10 +31,11 @@ use Rattle.state.specs.Places.{From, ROOM, Small, Summable, Lengths, whole_at}
 use Rattle.state.proofs.Cells.{zero_between, between_zero, between_sign, low_size, nonneg_between, between_size, size_between, within_from, low_from}
 use Rattle.state.proofs.Totals.{kinds_long, offtake_is, whole_is, wholes_are}
 use Rattle.point_day.specs.Fields.{point_day}
-use Rattle.taken.specs.Tested.{Known, Wholes, any_large}
+use Rattle.taken.specs.Tested.{Known, StateOf, FindsOf, Wholes, any_large}
 use Rattle.taken.specs.declared.State.{State}
 use Rattle.point_day.specs.declared.Stage.{Stage}
-use Rattle.std.specs.Prelude.{Option}
+use Rattle.std.specs.Prelude.{Option, Result, Ok, Err, IfOk}
+use Rattle.numbers.specs.declared.Refusal.{Refusal}
 
 -- every amount in low .. high, and 0 from place n on
 pub record Cells (low high : ℤ) (n : ℕ) (xs : List ℤ) : Type 0 where
@@ -268,6 +269,18 @@ known_measurement {d} k = rw (← k.measurement) (taken_facts d k.is_taken).meas
 
 pub known_sum : {d : PointDay} {s : State} → Known d s → sum_right s.sum ≡ true
 known_sum {d} k = ap sum_right k.sum ∙ (taken_facts d k.is_taken).sum
+
+-- what holds of all that a test can find, holds of what it found, if it found anything
+pub if_taken : {d : PointDay} {P : State → Type 0} (t : Result State Refusal) → ((s : State) → Known d s → P s) → StateOf d t → IfOk t P
+if_taken (Ok s) f k = f s k
+if_taken (Err r) f k = tt
+
+-- the tests of a call on a point-day that is not taken
+pub finds_untaken : {t : Result State Refusal} {r : Refusal} {Q : Type 0} {P : PointDay → Type 0} → t ≡ Err r → Q → ((d : PointDay) → taken d ≡ false → P d) → FindsOf t Q P
+finds_untaken {t} {r} e q f = record {
+  none = rw e q;
+  of = λ d k. f d (subst (λ x. StateOf d x) e k).0;
+}
 
 -- the sum of the whole amounts of a taken point-day, as a number of 64 bits
 pub sum_fits : (z : ℤ) → sum_right z ≡ true → (to_z w64 (of_z w64 z) ≡ pos (nat_abs z)) × (nat_abs z ≤ LIMIT)

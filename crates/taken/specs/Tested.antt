@@ -1,5 +1,5 @@
 -- What the test of a point-day finds. Assumes nothing. No exported contract leans on it.
-use Rattle.std.specs.Prelude.{Option, None, Some as Just, Result, Ok, Err, Bool, true, false, not, List, ◌++◌, ◌≡◌, ℕ, ◌*◌, ◌≤◌, ◌<◌, ℤ, pos, nat_abs, ◌+ℤ◌, length, take, drop, get_or}
+use Rattle.std.specs.Prelude.{Option, None, Some as Just, Result, Ok, Err, OnErr, Bool, true, false, not, List, ◌++◌, ◌≡◌, ℕ, ◌*◌, ◌≤◌, ◌<◌, ℤ, pos, nat_abs, ◌+ℤ◌, length, take, drop, get_or}
 use Rattle.std.specs.Int.Signed.{le_z}
 use Rattle.numbers.specs.Sums.{sumZ, table, atZ}
 use Rattle.numbers.specs.Lists.{every, has, distinct}
@@ -34,6 +34,11 @@ StateOf d (Err r) = (taken d ≡ false) × (r ≡ OutOfRange)
 -- what the tests of a call find of a taken point-day of which s is the test: P of it
 abbrev pub Finds : State → (PointDay → Type 0) → Type 0
 Finds s P = (d : PointDay) → Known d s → P d
+
+-- what the tests of a call find of a point-day of which t is the test: P of it; if it is not taken, Q
+pub record FindsOf (t : Result State Refusal) (Q : Type 0) (P : PointDay → Type 0) : Type 0 where
+  pub none : OnErr t Q
+  pub of : (d : PointDay) → StateOf d t → P d
 
 -- there is a point-day of which P holds
 pub record Some (P : PointDay → Type 0) : Type 0 where

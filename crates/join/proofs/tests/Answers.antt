@@ -1,14 +1,9 @@
--- `join::tests` meets its contract: a point-day that is not taken is refused by 2, any other by the tests of a join. Assumes nothing.
-use Rattle.numbers.proofs.Refusals.{status_passed}
-use Rattle.point_day.proofs.Called.{called_untaken}
-use Rattle.taken.proofs.Facts.{known_few}
-use Rattle.join.proofs.Joins.{fails}
+-- `join::tests` meets its contract: the tests of a join, of the test of the point-day. Assumes nothing.
+use Rattle.taken.proofs.Facts.{known_few, if_taken}
 use Rattle.join.proofs.tests.Goals as goal
 
-pub returns-in_err-test_day : goal.returns-in_err-test_day
-returns-in_err-test_day c =
-    let u = c.in_err-test_day.ensures in
-    rw (status_passed _ _ c.from_residual.ensures.1, u.1) (fails _ _ 1 (called_untaken _ _ u.0))
-
 pub join_test-requires : goal.join_test-requires
-join_test-requires c = known_few c.in_ok-test_day.ensures
+join_test-requires c = if_taken _ (λ s. known_few) c.test_day.ensures
+
+pub returns : goal.returns
+returns c = c.join_test.ensures.of _ c.test_day.ensures
