@@ -5,14 +5,14 @@ pub mod balance;
 pub mod shares;
 pub mod weights;
 
-ghost use Rattle.std.specs.Prelude.{◌≡◌, [], pos};
-ghost use Rattle.numbers.specs.Refusals.{status_of};
+ghost use Rattle.std.specs.Prelude.{◌≡◌, [], pos, IfOk};
+ghost use Rattle.numbers.specs.Refusals.{OUT_OF_RANGE, status_of};
 ghost use Rattle.point_day.specs.Limits.{CELLS};
 ghost use Rattle.point_day.specs.Calls.{allot};
 ghost use Rattle.point_day.specs.Answers.{answer_of};
 ghost use Rattle.point_day.specs.Struct.{padded, outcome, called};
 ghost use Rattle.point_day.specs.declared.PointDay.{PointDay};
-ghost use Rattle.taken.specs.Tested.{Finds, Some};
+ghost use Rattle.taken.specs.Tested.{Finds, FindsOf, Some};
 ghost use Rattle.allot.specs.Allotted.{with_balances, Tested, Has, Allottable};
 
 use numbers::Refusal;
@@ -58,7 +58,7 @@ fn cells_test<'a>(
 
 // The tests of allot on a taken point-day with these cells and revisions, of which `state` is the test. `cells`, zeros before, are then
 // the balances. (The arrays come one by one, as a point-day by value and one in plain numbers have them.)
-pub fn allot_test<'a>(
+pub fn taken_test<'a>(
     state: &State,
     consumption: &'a [i64; CELLS],
     losses: &'a [i64; CELLS],
@@ -91,13 +91,30 @@ fn put_balances(day: PointDay, balance: [i64; CELLS]) -> PointDay
     }
 }
 
+// The tests of an allot on a point-day of which `test` is the test, and these are cells and revisions: one that is not taken is refused by 2.
+pub fn allot_test<'a>(
+    test: &Result<State, Refusal>,
+    consumption: &'a [i64; CELLS],
+    losses: &'a [i64; CELLS],
+    revision: &'a [i64; USERS],
+    cells: &mut [i64; CELLS],
+) -> Result<(), Refusal>
+    requires { IfOk test.now (λ s. Some (Has s consumption.now losses.now revision.now)) × (cells.old ≡ padded CELLS (pos 0) []) }
+    ensures { FindsOf test.now (status_of result ≡ OUT_OF_RANGE) (λ d. d.consumption ≡ consumption.now → d.losses ≡ losses.now → d.revision ≡ revision.now → Tested cells.new d (status_of result)) }
+{
+    match test {
+        Ok(state) => taken_test(state, consumption, losses, revision, cells),
+        Err(_) => Err(Refusal::OutOfRange),
+    }
+}
+
 // The tests of an allot, that of the point-day first; `cells`, zeros before, are then the balances.
 fn tests(day: &PointDay, cells: &mut [i64; CELLS]) -> Result<(), Refusal>
     requires { cells.old ≡ padded CELLS (pos 0) [] }
     ensures { Tested cells.new day.now (status_of result) }
 {
-    let state = taken::test_day(day)?;
-    allot_test(&state, &day.consumption, &day.losses, &day.revision, cells)
+    let test = taken::test_day(day);
+    allot_test(&test, &day.consumption, &day.losses, &day.revision, cells)
 }
 
 // Allot: the balance over users and their kinds; the stage is then allotted.

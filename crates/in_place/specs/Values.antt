@@ -1,4 +1,4 @@
--- The values of answers, as numbers. Assumes nothing.
+-- The values of answers, as numbers. Assumes nothing. No exported contract leans on it.
 use Rattle.std.specs.Prelude.{List, [], ◌∷◌, ℕ, ℤ, pos}
 use Rattle.revise.specs.declared.Revision.{Revision}
 use Rattle.revise.specs.declared.Revision.TheVariants.{Within, Assigned}

@@ -37,7 +37,7 @@ pub fn join(day: &mut [i64], user: u16) -> Result<(), Refusal>
     ensures { plain (status_of result) [] day.new ≡ plain_call (called (join user)) [] day.old }
 {
     let state = plain_day::test_numbers(day)?;
-    join::join_test(&state, user)?;
+    join::taken_test(&state, user)?;
     writes::append(day, user);
     Ok(())
 }
@@ -47,7 +47,7 @@ pub fn line(day: &mut [i64], entry: LineEntry) -> Result<u64, Refusal>
     ensures { (before : List ℤ) → answered amount result before day.new ≡ plain_call (called (line entry.user entry.kind entry.consumption entry.coefficient)) before day.old }
 {
     let state = plain_day::test_numbers(day)?;
-    let effect = line::line_test(&state, entry)?;
+    let effect = line::taken_test(&state, entry)?;
     writes::add(day, effect.place, entry.consumption, effect.added);
     Ok(effect.added)
 }
@@ -57,7 +57,7 @@ pub fn measure(day: &mut [i64], emission: u64, downstream: u64) -> Result<(), Re
     ensures { plain (status_of result) [] day.new ≡ plain_call (called (measure emission downstream)) [] day.old }
 {
     let state = plain_day::test_numbers(day)?;
-    measure::measure_test(&state, emission, downstream)?;
+    measure::taken_test(&state, emission, downstream)?;
     writes::store_measurement(day, emission, downstream);
     Ok(())
 }
@@ -69,7 +69,7 @@ pub fn allot(day: &mut [i64]) -> Result<(), Refusal>
     let state = plain_day::test_numbers(day)?;
     let amounts = from_numbers::amounts_in(day);
     let mut cells = numbers::repeat::<i64, CELLS>(0);
-    allot::allot_test(
+    allot::taken_test(
         &state,
         amounts.consumption,
         amounts.losses,
@@ -86,7 +86,7 @@ pub fn revise(day: &mut [i64]) -> Result<Revision, Refusal>
 {
     let state = plain_day::test_numbers(day)?;
     let mut column = state.wholes;
-    let revision = revise::revise_test(&state, &day[REVISION_AT..LENGTH], TOLERANCE, &mut column)?;
+    let revision = revise::taken_test(&state, &day[REVISION_AT..LENGTH], TOLERANCE, &mut column)?;
     if let Revision::Assigned(_) = revision {
         writes::put(day, REVISION_AT, &column);
     }
@@ -98,7 +98,7 @@ pub fn start_final(day: &mut [i64]) -> Result<(), Refusal>
     ensures { plain (status_of result) [] day.new ≡ plain_call (called start_final) [] day.old }
 {
     let state = plain_day::test_numbers(day)?;
-    start_final::start_final_test(&state)?;
+    start_final::taken_test(&state)?;
     writes::start(day, start_final::next_stage(state.stage));
     Ok(())
 }
@@ -114,7 +114,7 @@ pub fn stand_in<'a>(
 {
     let state = plain_day::test_numbers(day)?;
     let mut shares = numbers::repeat::<i64, USERS>(0);
-    let row = stand_in::stand_in_test(&state, counts, users, amounts, TOLERANCE, &mut shares)?;
+    let row = stand_in::taken_test(&state, counts, users, amounts, TOLERANCE, &mut shares)?;
     writes::store_opening(day, rows::row_users(counts, users, row), &shares);
     Ok(row + 1)
 }
@@ -126,7 +126,7 @@ pub fn inventory<'a>(day: &'a [i64], out: &mut [i64]) -> Result<usize, Refusal>
 {
     let state = plain_day::test_numbers(day)?;
     let amounts = from_numbers::amounts_in(day);
-    inventory::list_rows(
+    inventory::list_taken(
         &state,
         amounts.consumption,
         amounts.losses,

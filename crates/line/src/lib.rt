@@ -3,16 +3,17 @@
 
 pub mod cells;
 
-ghost use Rattle.std.specs.Prelude.{◌≡◌, true, List, ℕ, ◌≤◌, ◌<◌, IfSome, take};
+ghost use Rattle.std.specs.Prelude.{◌≡◌, true, List, ℕ, ◌≤◌, ◌<◌, Err, IfOk, IfSome, take};
 ghost use Rattle.numbers.specs.Sums.{atZ};
 ghost use Rattle.numbers.specs.Amounts.{Within};
+ghost use Rattle.numbers.specs.declared.Refusal.TheVariants.{OutOfRange};
 ghost use Rattle.point_day.specs.Limits.{USERS, CELLS, LIMIT};
 ghost use Rattle.point_day.specs.Calls.{line};
 ghost use Rattle.point_day.specs.Answers.{answer_of};
 ghost use Rattle.point_day.specs.Struct.{sum_right, outcome, called};
 ghost use Rattle.point_day.specs.declared.PointDay.{PointDay};
 ghost use Rattle.state.specs.Places.{SlotOf, more};
-ghost use Rattle.taken.specs.Tested.{Finds};
+ghost use Rattle.taken.specs.Tested.{Finds, FindsOf};
 ghost use Rattle.line.specs.Lined.{with_cells, Tested, Stands};
 
 use cells::LineEntry;
@@ -47,7 +48,7 @@ pub fn slot_test(slot: Option<usize>, offtake: u64, entry: LineEntry) -> Result<
 }
 
 // The tests of a line on a taken point-day, of which `state` is the test. While entering, whole amounts are consumption and losses alone.
-pub fn line_test(state: &State, entry: LineEntry) -> Result<LineEffect, Refusal>
+pub fn taken_test(state: &State, entry: LineEntry) -> Result<LineEffect, Refusal>
     requires { (state.now.count ≤ USERS) × (sum_right state.now.sum ≡ true) }
     ensures { Finds state.now (λ d. Tested entry.user entry.kind entry.consumption entry.coefficient d result) }
 {
@@ -58,11 +59,22 @@ pub fn line_test(state: &State, entry: LineEntry) -> Result<LineEffect, Refusal>
     slot_test(slot, state.sum as u64, entry)
 }
 
+// The tests of a line on a point-day of which `test` is the test: one that is not taken is refused by 2.
+pub fn line_test(test: &Result<State, Refusal>, entry: LineEntry) -> Result<LineEffect, Refusal>
+    requires { IfOk test.now (λ s. (s.count ≤ USERS) × (sum_right s.sum ≡ true)) }
+    ensures { FindsOf test.now (result ≡ Err OutOfRange) (λ d. Tested entry.user entry.kind entry.consumption entry.coefficient d result) }
+{
+    match test {
+        Ok(state) => taken_test(state, entry),
+        Err(_) => Err(Refusal::OutOfRange),
+    }
+}
+
 // The tests of a line, that of the point-day first.
 fn tests(day: &PointDay, entry: LineEntry) -> Result<LineEffect, Refusal>
     ensures { Tested entry.user entry.kind entry.consumption entry.coefficient day.now result }
 {
-    line_test(&taken::test_day(day)?, entry)
+    line_test(&taken::test_day(day), entry)
 }
 
 // A line at the place of its cell.

@@ -3,14 +3,14 @@
 
 ghost use Rattle.std.specs.Prelude.{◌≡◌, not};
 ghost use Rattle.numbers.specs.Lists.{both};
-ghost use Rattle.numbers.specs.Refusals.{status_of};
+ghost use Rattle.numbers.specs.Refusals.{OUT_OF_RANGE, status_of};
 ghost use Rattle.point_day.specs.Day.{provisional};
 ghost use Rattle.point_day.specs.Calls.{measure};
 ghost use Rattle.point_day.specs.Answers.{answer_of};
 ghost use Rattle.point_day.specs.Struct.{outcome, called};
 ghost use Rattle.point_day.specs.Day.{metered};
 ghost use Rattle.point_day.specs.Fields.{set_measurement};
-ghost use Rattle.taken.specs.Tested.{Finds};
+ghost use Rattle.taken.specs.Tested.{Finds, FindsOf};
 ghost use Rattle.measure.specs.Measuring.{Tested};
 
 use numbers::Refusal;
@@ -25,7 +25,7 @@ fn measured_for_good(allotted: bool, stage: Stage) -> bool
 }
 
 // The tests of a measure on a taken point-day, of which `state` is the test.
-pub fn measure_test(state: &State, emission: u64, downstream: u64) -> Result<(), Refusal>
+pub fn taken_test(state: &State, emission: u64, downstream: u64) -> Result<(), Refusal>
     ensures { Finds state.now (λ d. Tested emission downstream d (status_of result)) }
 {
     if measured_for_good(state.allotted, state.stage) {
@@ -35,6 +35,16 @@ pub fn measure_test(state: &State, emission: u64, downstream: u64) -> Result<(),
         return Err(Refusal::OutOfRange);
     }
     Ok(())
+}
+
+// The tests of a measure on a point-day of which `test` is the test: one that is not taken is refused by 2.
+pub fn measure_test(test: &Result<State, Refusal>, emission: u64, downstream: u64) -> Result<(), Refusal>
+    ensures { FindsOf test.now (status_of result ≡ OUT_OF_RANGE) (λ d. Tested emission downstream d (status_of result)) }
+{
+    match test {
+        Ok(state) => taken_test(state, emission, downstream),
+        Err(_) => Err(Refusal::OutOfRange),
+    }
 }
 
 fn remeasure(day: PointDay, emission: u64, downstream: u64) -> PointDay
@@ -53,7 +63,7 @@ fn remeasure(day: PointDay, emission: u64, downstream: u64) -> PointDay
 fn tests(day: &PointDay, emission: u64, downstream: u64) -> Result<(), Refusal>
     ensures { Tested emission downstream day.now (status_of result) }
 {
-    measure_test(&taken::test_day(day)?, emission, downstream)
+    measure_test(&taken::test_day(day), emission, downstream)
 }
 
 // Measure: emission and downstream emission; the latest counts.

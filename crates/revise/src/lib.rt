@@ -4,16 +4,17 @@
 pub mod assignment;
 pub mod outstanding;
 
-ghost use Rattle.std.specs.Prelude.{◌≡◌, ◌≤◌, length};
+ghost use Rattle.std.specs.Prelude.{◌≡◌, ◌≤◌, length, Err, IfOk};
 ghost use Rattle.numbers.specs.Lists.{both};
 ghost use Rattle.numbers.specs.Amounts.{SAFE};
+ghost use Rattle.numbers.specs.declared.Refusal.TheVariants.{OutOfRange};
 ghost use Rattle.point_day.specs.Limits.{USERS, TOLERANCE};
 ghost use Rattle.point_day.specs.Day.{provisional};
 ghost use Rattle.point_day.specs.Fields.{set_revision};
 ghost use Rattle.point_day.specs.Calls.{revise};
 ghost use Rattle.point_day.specs.Answers.{answer_of};
 ghost use Rattle.point_day.specs.Struct.{outcome, called};
-ghost use Rattle.taken.specs.Tested.{Finds, Some};
+ghost use Rattle.taken.specs.Tested.{Finds, FindsOf, Some};
 ghost use Rattle.revise.specs.Revised.{Tested, Has};
 
 use numbers::Refusal;
@@ -37,7 +38,7 @@ fn is_revisable(stage: Stage, allotted: bool) -> bool
 // The tests of a revise by any tolerance on a taken point-day with these revisions, of which `state` is the test. `column` holds its
 // whole amounts, and afterwards the new revisions, if R is assigned: then no whole amount was negative, and the sum of the weights is their
 // sum.
-pub fn revise_test<'a>(
+pub fn taken_test<'a>(
     state: &State,
     revision: &'a [i64],
     tolerance: u64,
@@ -63,6 +64,22 @@ pub fn revise_test<'a>(
     Ok(Revision::Assigned(amount))
 }
 
+// The tests of a revise on a point-day of which `test` is the test, and these are the revisions: one that is not taken is refused by 2.
+pub fn revise_test<'a>(
+    test: &Result<State, Refusal>,
+    revision: &'a [i64],
+    tolerance: u64,
+    column: &mut [i64],
+) -> Result<Revision, Refusal>
+    requires { IfOk test.now (λ s. Some (Has s revision.now) × (column.old ≡ s.wholes)) × (tolerance ≤ SAFE) }
+    ensures { FindsOf test.now (result ≡ Err OutOfRange) (λ d. d.revision ≡ revision.now → Tested tolerance d result column.new) }
+{
+    match test {
+        Ok(state) => taken_test(state, revision, tolerance, column),
+        Err(_) => Err(Refusal::OutOfRange),
+    }
+}
+
 // The tests of a revise, that of the point-day first; `column` has the new revisions afterwards, if R is assigned.
 fn tests(day: &PointDay, tolerance: u64, column: &mut [i64]) -> Result<Revision, Refusal>
     requires { (length column.old ≡ USERS) × (tolerance ≤ SAFE) }
@@ -70,7 +87,7 @@ fn tests(day: &PointDay, tolerance: u64, column: &mut [i64]) -> Result<Revision,
 {
     let state = taken::test_day(day)?;
     column.copy_from_slice(&state.wholes);
-    revise_test(&state, &day.revision, tolerance, column)
+    taken_test(&state, &day.revision, tolerance, column)
 }
 
 // The point-day with other revisions.

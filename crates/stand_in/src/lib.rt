@@ -4,13 +4,14 @@
 pub mod opening;
 pub mod rows;
 
-ghost use Rattle.std.specs.Prelude.{◌≡◌, true, pos, replicate};
+ghost use Rattle.std.specs.Prelude.{◌≡◌, true, pos, replicate, Err, IfOk};
+ghost use Rattle.numbers.specs.declared.Refusal.TheVariants.{OutOfRange};
 ghost use Rattle.point_day.specs.Limits.{USERS, TOLERANCE};
 ghost use Rattle.point_day.specs.Day.{measurement_right};
 ghost use Rattle.point_day.specs.Calls.{stand_in};
 ghost use Rattle.point_day.specs.Answers.{answer_of};
 ghost use Rattle.point_day.specs.Struct.{rows_of, outcome, called};
-ghost use Rattle.taken.specs.Tested.{Finds};
+ghost use Rattle.taken.specs.Tested.{Finds, FindsOf};
 ghost use Rattle.stand_in.specs.Rows.{rows_in};
 ghost use Rattle.stand_in.specs.StandsIn.{Tested};
 
@@ -22,7 +23,7 @@ use taken::State;
 // The tests of a stand-in whose rows stand in three lists, on a taken point-day of which `state` is the test: the place of the row that is
 // used, from 0. If they pass, a column of zeros becomes the shares of the row's users. (The lists come one by one, not as `RowLists`, which
 // have the lengths of rows: those of other lengths are refused in their place among the tests.)
-pub fn stand_in_test<'a>(
+pub fn taken_test<'a>(
     state: &State,
     counts: &'a [usize],
     joining: &'a [u16],
@@ -61,6 +62,24 @@ pub fn stand_in_test<'a>(
     Ok(row)
 }
 
+// The tests of a stand-in on a point-day of which `test` is the test: one that is not taken is refused by 2.
+pub fn stand_in_test<'a>(
+    test: &Result<State, Refusal>,
+    counts: &'a [usize],
+    joining: &'a [u16],
+    amounts: &'a [i64],
+    tolerance: u64,
+    shares: &mut [i64],
+) -> Result<usize, Refusal>
+    requires { IfOk test.now (λ s. measurement_right s.measurement ≡ true) × (shares.old ≡ replicate USERS (pos 0)) }
+    ensures { FindsOf test.now (result ≡ Err OutOfRange) (λ d. Tested tolerance counts.now joining.now amounts.now d result shares.new) }
+{
+    match test {
+        Ok(state) => taken_test(state, counts, joining, amounts, tolerance, shares),
+        Err(_) => Err(Refusal::OutOfRange),
+    }
+}
+
 // The tests of a stand-in, that of the point-day first.
 fn tests<'a>(
     day: &'a PointDay,
@@ -73,8 +92,8 @@ fn tests<'a>(
     requires { shares.old ≡ replicate USERS (pos 0) }
     ensures { Tested tolerance counts.now users.now amounts.now day.now result shares.new }
 {
-    let state = taken::test_day(day)?;
-    stand_in_test(&state, counts, users, amounts, tolerance, shares)
+    let test = taken::test_day(day);
+    stand_in_test(&test, counts, users, amounts, tolerance, shares)
 }
 
 // Stand-in with rows in three lists, if net is above a tolerance: the users of the nearest row with any pair join, and net is prorated

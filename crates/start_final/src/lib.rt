@@ -3,12 +3,12 @@
 
 ghost use Rattle.std.specs.Prelude.{◌≡◌, not};
 ghost use Rattle.numbers.specs.Lists.{either};
-ghost use Rattle.numbers.specs.Refusals.{status_of};
+ghost use Rattle.numbers.specs.Refusals.{OUT_OF_RANGE, status_of};
 ghost use Rattle.point_day.specs.Day.{last_stage, next};
 ghost use Rattle.point_day.specs.Calls.{start_final};
 ghost use Rattle.point_day.specs.Answers.{answer_of};
 ghost use Rattle.point_day.specs.Struct.{outcome, called};
-ghost use Rattle.taken.specs.Tested.{Finds};
+ghost use Rattle.taken.specs.Tested.{Finds, FindsOf};
 ghost use Rattle.start_final.specs.Writes.{restarted, Tested};
 
 use numbers::Refusal;
@@ -41,13 +41,23 @@ fn cannot_start(allotted: bool, stage: Stage) -> bool
 }
 
 // The tests of a start-final on a taken point-day, of which `state` is the test.
-pub fn start_final_test(state: &State) -> Result<(), Refusal>
+pub fn taken_test(state: &State) -> Result<(), Refusal>
     ensures { Finds state.now (λ d. Tested d (status_of result)) }
 {
     if cannot_start(state.allotted, state.stage) {
         return Err(Refusal::WrongStage);
     }
     Ok(())
+}
+
+// The tests of a start-final on a point-day of which `test` is the test: one that is not taken is refused by 2.
+pub fn start_final_test(test: &Result<State, Refusal>) -> Result<(), Refusal>
+    ensures { FindsOf test.now (status_of result ≡ OUT_OF_RANGE) (λ d. Tested d (status_of result)) }
+{
+    match test {
+        Ok(state) => taken_test(state),
+        Err(_) => Err(Refusal::OutOfRange),
+    }
 }
 
 // The next stage, entering: users and measurement stay, all else is zero.
@@ -69,7 +79,7 @@ fn restart(day: PointDay) -> PointDay
 fn tests(day: &PointDay) -> Result<(), Refusal>
     ensures { Tested day.now (status_of result) }
 {
-    start_final_test(&taken::test_day(day)?)
+    start_final_test(&taken::test_day(day))
 }
 
 // Start-final: the next stage, entering.

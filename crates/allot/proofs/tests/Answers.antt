@@ -1,10 +1,10 @@
--- `allot::tests` meets its contract: a point-day that is not taken is refused by 2, any other by the tests of an allot. Assumes nothing.
-use Rattle.numbers.proofs.Refusals.{status_passed}
-use Rattle.point_day.proofs.Called.{called_untaken}
-use Rattle.allot.proofs.Outcomes.{fails}
+-- `allot::tests` meets its contract: the tests of the call, of the test of the point-day. Assumes nothing.
+use mathlib.Core.Path.{refl}
+use Rattle.taken.proofs.Facts.{if_taken}
 use Rattle.allot.proofs.tests.Goals as goal
 
-pub returns-in_err-state : goal.returns-in_err-state
-returns-in_err-state c =
-    let u = c.in_err-state.ensures in
-    rw (status_passed _ _ c.from_residual.ensures.1, u.1) (fails _ _ 1 (called_untaken _ _ u.0))
+pub allot_test-requires : goal.allot_test-requires
+allot_test-requires c = (if_taken _ (λ s k. record { day = c.args.day.now; holds = record { known = k; consumption = refl; losses = refl; revision = refl } }) c.test_day-test.ensures, c.requires)
+
+pub returns : goal.returns
+returns c = c.allot_test.ensures.of _ c.test_day-test.ensures refl refl refl

@@ -18,15 +18,15 @@ returns-in_err-state c = rw (status_passed _ _ c.from_residual.ensures.1) (untak
 pub amounts_in-amounts-requires : goal.amounts_in-amounts-requires
 amounts_in-amounts-requires c = long c.args.day.now c.in_ok-state.ensures
 
-pub returns-in_err-allot_test : goal.returns-in_err-allot_test
-returns-in_err-allot_test c =
+pub returns-in_err-taken_test : goal.returns-in_err-taken_test
+returns-in_err-taken_test c =
     let xs = c.args.day.now in
     let t : TestedNumbers xs (Ok c.in_ok-state.state) = c.in_ok-state.ensures in
     let m = c.amounts_in-amounts.ensures in
-    rw (status_passed _ _ c.from_residual-in_err-allot_test.ensures.1) (refused_by xs t allot [] _ ((c.in_err-allot_test.ensures (day_in xs) t.1 (sym m.0) (sym m.1) (sym m.3)).failed (refused_not_0 _)))
+    rw (status_passed _ _ c.from_residual-in_err-taken_test.ensures.1) (refused_by xs t allot [] _ ((c.in_err-taken_test.ensures (day_in xs) t.1 (sym m.0) (sym m.1) (sym m.3)).failed (refused_not_0 _)))
 
-pub allot_test-requires : goal.allot_test-requires
-allot_test-requires c =
+pub taken_test-requires : goal.taken_test-requires
+taken_test-requires c =
     let xs = c.args.day.now in
     let t : TestedNumbers xs (Ok c.in_ok-state.state) = c.in_ok-state.ensures in
     let m = c.amounts_in-amounts.ensures in
@@ -40,4 +40,4 @@ returns c =
     let xs = c.args.day.now in
     let t : TestedNumbers xs (Ok c.in_ok-state.state) = c.in_ok-state.ensures in
     let m = c.amounts_in-amounts.ensures in
-    effect.allots xs t.0 _ (search rules) ((c.in_ok-allot_test.ensures (day_in xs) t.1 (sym m.0) (sym m.1) (sym m.3)).passed refl) refl c.store_balances.ensures
+    effect.allots xs t.0 _ (search rules) ((c.in_ok-taken_test.ensures (day_in xs) t.1 (sym m.0) (sym m.1) (sym m.3)).passed refl) refl c.store_balances.ensures

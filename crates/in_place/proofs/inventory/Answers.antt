@@ -16,12 +16,12 @@ returns-in_err-state c =
 pub amounts_in-amounts-requires : goal.amounts_in-amounts-requires
 amounts_in-amounts-requires c = long c.args.day.now c.in_ok-state.ensures
 
-pub list_rows-requires : goal.list_rows-requires
-list_rows-requires c = known_few c.in_ok-state.ensures.1
+pub list_taken-requires : goal.list_taken-requires
+list_taken-requires c = known_few c.in_ok-state.ensures.1
 
 pub returns : goal.returns
 returns c =
     let t = c.in_ok-state.ensures in
     let m = c.amounts_in-amounts.ensures in
-    let g = lists c.args.day.now c.args.out.now t.0 _ _ (c.list_rows.ensures (day_in c.args.day.now) t.1 (sym m.0) (sym m.1) (sym m.2)) in
+    let g = lists c.args.day.now c.args.out.now t.0 _ _ (c.list_taken.ensures (day_in c.args.day.now) t.1 (sym m.0) (sym m.1) (sym m.2)) in
     record { result_value = g.0; afterwards = g.1 }

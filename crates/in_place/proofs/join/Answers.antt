@@ -25,23 +25,23 @@ use Rattle.in_place.proofs.join.Goals as goal
 pub returns-in_err-state : goal.returns-in_err-state
 returns-in_err-state c = rw (status_passed _ _ c.from_residual.ensures.1) (untaken (join c.args.user) [] c.args.day.now c.in_err-state.ensures)
 
-pub returns-in_err-join_test : goal.returns-in_err-join_test
-returns-in_err-join_test c =
+pub returns-in_err-taken_test : goal.returns-in_err-taken_test
+returns-in_err-taken_test c =
     let xs = c.args.day.now in
     let t : TestedNumbers xs (Ok c.in_ok-state.state) = c.in_ok-state.ensures in
-    rw (status_passed _ _ c.from_residual-in_err-join_test.ensures.1) (refused_by xs t (join c.args.user) [] _ ((c.in_err-join_test.ensures (day_in xs) t.1).failed (refused_not_0 _)))
+    rw (status_passed _ _ c.from_residual-in_err-taken_test.ensures.1) (refused_by xs t (join c.args.user) [] _ ((c.in_err-taken_test.ensures (day_in xs) t.1).failed (refused_not_0 _)))
 
-pub join_test-requires : goal.join_test-requires
-join_test-requires c = known_few c.in_ok-state.ensures.1
+pub taken_test-requires : goal.taken_test-requires
+taken_test-requires c = known_few c.in_ok-state.ensures.1
 
 pub append-requires : goal.append-requires
 append-requires c =
     let xs = c.args.day.now in
     let t : TestedNumbers xs (Ok c.in_ok-state.state) = c.in_ok-state.ensures in
-    (long xs t, effect.join_room xs t.0 c.args.user ((c.in_ok-join_test.ensures (day_in xs) t.1).passed refl))
+    (long xs t, effect.join_room xs t.0 c.args.user ((c.in_ok-taken_test.ensures (day_in xs) t.1).passed refl))
 
 pub returns : goal.returns
 returns c =
     let xs = c.args.day.now in
     let t : TestedNumbers xs (Ok c.in_ok-state.state) = c.in_ok-state.ensures in
-    effect.joined xs t.0 c.args.user ((c.in_ok-join_test.ensures (day_in xs) t.1).passed refl) refl c.append.ensures
+    effect.joined xs t.0 c.args.user ((c.in_ok-taken_test.ensures (day_in xs) t.1).passed refl) refl c.append.ensures

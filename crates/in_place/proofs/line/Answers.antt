@@ -26,8 +26,8 @@ use Rattle.in_place.proofs.line.Goals as goal
 pub returns-in_err-state : goal.returns-in_err-state
 returns-in_err-state c = λ vs. rw (refusal_passed _ _ c.from_residual.ensures.1) (untaken (line c.args.entry.user c.args.entry.kind c.args.entry.consumption c.args.entry.coefficient) vs c.args.day.now c.in_err-state.ensures)
 
-pub line_test-requires : goal.line_test-requires
-line_test-requires c = (known_few c.in_ok-state.ensures.1, known_sum c.in_ok-state.ensures.1)
+pub taken_test-requires : goal.taken_test-requires
+taken_test-requires c = (known_few c.in_ok-state.ensures.1, known_sum c.in_ok-state.ensures.1)
 
 pub returns-in_err-effect : goal.returns-in_err-effect
 returns-in_err-effect c =

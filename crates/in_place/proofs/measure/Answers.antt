@@ -25,21 +25,21 @@ use Rattle.in_place.proofs.measure.Goals as goal
 pub returns-in_err-state : goal.returns-in_err-state
 returns-in_err-state c = rw (status_passed _ _ c.from_residual.ensures.1) (untaken (measure c.args.emission c.args.downstream) [] c.args.day.now c.in_err-state.ensures)
 
-pub returns-in_err-measure_test : goal.returns-in_err-measure_test
-returns-in_err-measure_test c =
+pub returns-in_err-taken_test : goal.returns-in_err-taken_test
+returns-in_err-taken_test c =
     let xs = c.args.day.now in
     let t : TestedNumbers xs (Ok c.in_ok-state.state) = c.in_ok-state.ensures in
-    rw (status_passed _ _ c.from_residual-in_err-measure_test.ensures.1) (refused_by xs t (measure c.args.emission c.args.downstream) [] _ ((c.in_err-measure_test.ensures (day_in xs) t.1).failed (refused_not_0 _)))
+    rw (status_passed _ _ c.from_residual-in_err-taken_test.ensures.1) (refused_by xs t (measure c.args.emission c.args.downstream) [] _ ((c.in_err-taken_test.ensures (day_in xs) t.1).failed (refused_not_0 _)))
 
 pub store_measurement-requires : goal.store_measurement-requires
 store_measurement-requires c =
     let xs = c.args.day.now in
     let t : TestedNumbers xs (Ok c.in_ok-state.state) = c.in_ok-state.ensures in
-    let m = (c.in_ok-measure_test.ensures (day_in xs) t.1).passed refl in
+    let m = (c.in_ok-taken_test.ensures (day_in xs) t.1).passed refl in
     (long xs t, effect.emission_low xs t.0 c.args.emission c.args.downstream m, effect.downstream_low xs t.0 c.args.emission c.args.downstream m)
 
 pub returns : goal.returns
 returns c =
     let xs = c.args.day.now in
     let t : TestedNumbers xs (Ok c.in_ok-state.state) = c.in_ok-state.ensures in
-    effect.measured xs t.0 c.args.emission c.args.downstream ((c.in_ok-measure_test.ensures (day_in xs) t.1).passed refl) refl c.store_measurement.ensures
+    effect.measured xs t.0 c.args.emission c.args.downstream ((c.in_ok-taken_test.ensures (day_in xs) t.1).passed refl) refl c.store_measurement.ensures

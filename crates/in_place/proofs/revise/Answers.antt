@@ -43,11 +43,11 @@ module _ (xs : List ℤ) (e : is_readable xs ≡ true) where
 pub returns-in_err-state : goal.returns-in_err-state
 returns-in_err-state c = λ vs. rw (refusal_passed _ _ c.from_residual.ensures.1) (untaken (revise TOLERANCE) vs c.args.day.now c.in_err-state.ensures)
 
-pub slice_bounds-revise_test-end : goal.slice_bounds-revise_test-end
-slice_bounds-revise_test-end c = omega (arith, long c.args.day.now c.in_ok-state.ensures)
+pub slice_bounds-taken_test-end : goal.slice_bounds-taken_test-end
+slice_bounds-taken_test-end c = omega (arith, long c.args.day.now c.in_ok-state.ensures)
 
-pub revise_test-requires : goal.revise_test-requires
-revise_test-requires c =
+pub taken_test-requires : goal.taken_test-requires
+taken_test-requires c =
     let xs = c.args.day.now in
     let t : TestedNumbers xs (Ok c.in_ok-state.state) = c.in_ok-state.ensures in
     (record { day = day_in xs; holds = record { known = t.1; revision = unfold day_in in refl } }, refl, omega arith)
@@ -60,7 +60,7 @@ returns-in_err-revision c =
 
 pub put-requires : goal.put-requires
 put-requires c =
-    let w : length c.revise_test.new.column ≡ USERS = search rules in
+    let w : length c.taken_test.new.column ≡ USERS = search rules in
     omega (arith, w, long c.args.day.now c.in_ok-state.ensures)
 
 pub returns-in-Assigned : goal.returns-in-Assigned

@@ -25,8 +25,8 @@ use Rattle.in_place.proofs.stand_in.Goals as goal
 pub returns-in_err-state : goal.returns-in_err-state
 returns-in_err-state c = λ vs. rw (refusal_passed _ _ c.from_residual.ensures.1) (untaken (stand_in TOLERANCE (rows_of (rows_in c.args.counts.now c.args.users.now c.args.amounts.now))) vs c.args.day.now c.in_err-state.ensures)
 
-pub stand_in_test-requires : goal.stand_in_test-requires
-stand_in_test-requires c = (known_measurement c.in_ok-state.ensures.1, c.repeat-shares.ensures)
+pub taken_test-requires : goal.taken_test-requires
+taken_test-requires c = (known_measurement c.in_ok-state.ensures.1, c.repeat-shares.ensures)
 
 pub returns-in_err-row : goal.returns-in_err-row
 returns-in_err-row c =

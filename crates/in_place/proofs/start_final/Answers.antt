@@ -25,11 +25,11 @@ use Rattle.in_place.proofs.start_final.Goals as goal
 pub returns-in_err-state : goal.returns-in_err-state
 returns-in_err-state c = rw (status_passed _ _ c.from_residual.ensures.1) (untaken start_final [] c.args.day.now c.in_err-state.ensures)
 
-pub returns-in_err-start_final_test : goal.returns-in_err-start_final_test
-returns-in_err-start_final_test c =
+pub returns-in_err-taken_test : goal.returns-in_err-taken_test
+returns-in_err-taken_test c =
     let xs = c.args.day.now in
     let t : TestedNumbers xs (Ok c.in_ok-state.state) = c.in_ok-state.ensures in
-    rw (status_passed _ _ c.from_residual-in_err-start_final_test.ensures.1) (refused_by xs t start_final [] _ ((c.in_err-start_final_test.ensures (day_in xs) t.1).failed (refused_not_0 _)))
+    rw (status_passed _ _ c.from_residual-in_err-taken_test.ensures.1) (refused_by xs t start_final [] _ ((c.in_err-taken_test.ensures (day_in xs) t.1).failed (refused_not_0 _)))
 
 pub start-requires : goal.start-requires
 start-requires c =
@@ -41,5 +41,5 @@ pub returns : goal.returns
 returns c =
     let xs = c.args.day.now in
     let t : TestedNumbers xs (Ok c.in_ok-state.state) = c.in_ok-state.ensures in
-    effect.restarts xs t.0 ((c.in_ok-start_final_test.ensures (day_in xs) t.1).passed refl) refl
+    effect.restarts xs t.0 ((c.in_ok-taken_test.ensures (day_in xs) t.1).passed refl) refl
     (c.start.ensures ∙ ap (λ s. set (set (take CONSUMPTION_AT xs ++ replicate (length xs - CONSUMPTION_AT) (pos 0)) ALLOTTED_AT (pos 0)) STAGE_AT (pos (stage_number s))) (c.next_stage.ensures ∙ ap next (stage_read xs t)))

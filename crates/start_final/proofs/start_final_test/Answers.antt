@@ -1,12 +1,9 @@
--- `start_final::start_final_test` meets its contract, outcome by outcome, on any point-day of which this is the test. Assumes nothing.
-use mathlib.Core.Path.{refl, sym, ◌∙◌}
-use Rattle.start_final.proofs.Restarts.{start_1, start_done, fails, passes}
+-- `start_final::start_final_test` meets its contract: a point-day that is not taken is refused by 2, any other by the tests on it. Assumes nothing.
+use mathlib.Core.Path.{refl}
+use Rattle.point_day.proofs.Called.{called_untaken}
+use Rattle.taken.proofs.Facts.{finds_untaken}
+use Rattle.start_final.proofs.Restarts.{fails}
 use Rattle.start_final.proofs.start_final_test.Goals as goal
 
-pub returns-then-cannot_start : goal.returns-then-cannot_start
-returns-then-cannot_start c =
-    (λ d k. fails d 0 (start_1 d k.sized k.is_taken (rw (k.allotted, k.stage) (sym c.cannot_start.ensures ∙ c.if-cannot_start.true))))
-
-pub returns : goal.returns
-returns c =
-    (λ d k. passes d record { is = start_done d k.sized k.is_taken (rw (k.allotted, k.stage) (sym c.cannot_start.ensures ∙ c.if-cannot_start.false)) refl; taken = k.is_taken })
+pub returns-in-Err : goal.returns-in-Err
+returns-in-Err c = finds_untaken c.in-Err.is refl (λ d e. fails d 1 (called_untaken _ d e))
