@@ -1,10 +1,11 @@
 // Calls on one point-day from bytes: an operation is a byte and its arguments, little-endian; what each call answers is printed.
 #![tactic(auto)]
 
-ghost use Rattle.std.specs.Prelude.{◌≡◌, true, ◌<◌, ◌≤◌, length};
+ghost use Rattle.std.specs.Prelude.{◌≡◌, true, ◌<◌};
 ghost use Rattle.point_day.specs.Limits.{USERS};
 ghost use Rattle.point_day.specs.Day.{measurement_right};
 ghost use Rattle.point_day.specs.Struct.{taken};
+ghost use Rattle.console.specs.Input.{Onward};
 
 use console::input::{Input, MOST_LENT, Number, at_most, lent_numbers};
 use console::{Program, Stop, output};
@@ -126,14 +127,14 @@ impl Calls {
     }
 
     fn join<W: Write>(&mut self, out: &mut W, input: &mut Input) -> Result<(), Stop>
-        ensures { length input.new ≤ length input.old }
+        ensures { Onward input.old input.new }
     {
         let user = u16::read(input)?;
         self.settle(out, "join", join::join(self.day, user))
     }
 
     fn line<W: Write>(&mut self, out: &mut W, input: &mut Input) -> Result<(), Stop>
-        ensures { length input.new ≤ length input.old }
+        ensures { Onward input.old input.new }
     {
         let entry = arguments_from_bytes::read_line(input)?;
         let outcome = line::line(self.day, entry);
@@ -142,7 +143,7 @@ impl Calls {
 
     // (Beside `line`: the two differ in the call and in its name alone, and each is three lines.)
     fn edit<W: Write>(&mut self, out: &mut W, input: &mut Input) -> Result<(), Stop>
-        ensures { length input.new ≤ length input.old }
+        ensures { Onward input.old input.new }
     {
         let entry = arguments_from_bytes::read_line(input)?;
         let outcome = line::line_by_edit(self.day, entry);
@@ -150,7 +151,7 @@ impl Calls {
     }
 
     fn measure<W: Write>(&mut self, out: &mut W, input: &mut Input) -> Result<(), Stop>
-        ensures { length input.new ≤ length input.old }
+        ensures { Onward input.old input.new }
     {
         let emission = u64::read(input)?;
         let downstream = u64::read(input)?;
@@ -162,14 +163,14 @@ impl Calls {
     }
 
     fn stand_in<W: Write>(&mut self, out: &mut W, input: &mut Input) -> Result<(), Stop>
-        ensures { length input.new ≤ length input.old }
+        ensures { Onward input.old input.new }
     {
         let rows = arguments_from_bytes::read_rows(input)?;
         self.settle(out, "stand-in", stand_in::stand_in(self.day, rows))
     }
 
     fn load<W: Write>(&mut self, out: &mut W, input: &mut Input) -> Result<(), Stop>
-        ensures { length input.new ≤ length input.old }
+        ensures { Onward input.old input.new }
     {
         self.day = arguments_from_bytes::read_day(input)?;
         writeln!(out, "load")?;
@@ -177,7 +178,7 @@ impl Calls {
     }
 
     fn inventory<W: Write>(&self, out: &mut W, input: &mut Input) -> Result<(), Stop>
-        ensures { length input.new ≤ length input.old }
+        ensures { Onward input.old input.new }
     {
         let count = u16::read(input)?;
         let n = at_most(count.into(), MOST_LENT)?;
@@ -188,7 +189,7 @@ impl Calls {
 
     // The report on the day file; the point-day of the run stays.
     fn day_file<W: Write>(&self, out: &mut W, input: &mut Input) -> Result<(), Stop>
-        ensures { length input.new ≤ length input.old }
+        ensures { Onward input.old input.new }
     {
         let count = u32::read(input)?;
         let file = input.bytes(count as usize)?;
@@ -219,10 +220,19 @@ impl Program for Calls {
     }
 }
 
-// Runs the operations of all of an input, from a fresh point-day.
-pub fn run_input<R: Read, W: Write>(input: &mut R, out: &mut W) -> io::Result<()> {
-    let mut calls = Calls {
+// Before the first operation: a fresh point-day.
+fn fresh_calls() -> Calls {
+    Calls {
         day: point_day::fresh_day(),
-    };
-    console::run(&mut calls, input, out)
+    }
+}
+
+// The operations one after the other, from bytes of any length.
+pub fn run<W: Write>(out: &mut W, bytes: &[u8]) -> io::Result<()> {
+    console::run_bytes(&mut fresh_calls(), out, bytes)
+}
+
+// The same from all of an input.
+pub fn run_input<R: Read, W: Write>(input: &mut R, out: &mut W) -> io::Result<()> {
+    console::run(&mut fresh_calls(), input, out)
 }

@@ -26,11 +26,6 @@ use Rattle.console.proofs.input.at_most.Reads as at_most
 absent : {n : ℕ} → suc (suc n) ≤ suc n → ⊥
 absent h = absurd (omega arith)
 
--- what is done after a number, if there is one, as `?` does it
-abbrev pub and_then : {A B : Type 0} → Result A Malformed → (A → Result B Malformed) → Result B Malformed
-and_then (Ok x) f = f x
-and_then (Err e) f = Err e
-
 -- the clauses of `Number::read`: a number of n bytes that `spelled` gives, read from `before`, which leaves `after`
 pub record Reads {A : Type 0} (n : ℕ) (spelled : List ℕ → A) (before : List ℕ) (r : Result A Malformed) (after : List ℕ) : Type 0 where
   pub ok : IsOk r ↔ (n ≤ length before)
@@ -54,9 +49,20 @@ pub cut_short : (r : Result ℕ Malformed) (after : List ℕ) → Reads 2 (λ s.
 cut_short (Ok x) after h = absurd (absent (h.ok.0 (refl {a = true})))
 cut_short (Err e) after h = (refl {a = true}, h.same)
 
--- what is malformed stays so: nothing that `?` would hand on to is run
-pub stays_failed : {A B : Type 0} (e : Malformed) (f : A → Result B Malformed) → and_then (Err e) f ≡ Err e
-stays_failed e f = refl
+-- where a number is cut short so is each of as many bytes or more that is read in its place, and nothing is passed over
+pub stays_failed : {A B : Type 0} (n m : ℕ) (spelled : List ℕ → A) (spelled' : List ℕ → B) (before after last : List ℕ) (r : Result A Malformed) (r' : Result B Malformed)
+    → n ≤ m → IsErr r → Reads n spelled before r after → Reads m spelled' after r' last → IsErr r' × (after ≡ before) × (last ≡ before)
+stays_failed n m spelled spelled' before after last (Ok x) r' l e h h' = never e
+stays_failed n m spelled spelled' before after last (Err x) (Ok y) l e h h' =
+    let whole : n ≤ length before = omega (arith, l, h'.ok.0 (refl {a = true}), ap length h.same) in never (h.ok.1 whole)
+stays_failed n m spelled spelled' before after last (Err x) (Err y) l e h h' = (refl {a = true}, h.same, h'.same ∙ h.same)
+
+-- and so by the contract of `<u16 as Number>::read`, as the toolchain reads it for a caller
+pub u16_stays_failed : (κs : Lfts 2) (input input' input'' : MutBor (List ℕ)) (r r' : Result ℕ Malformed) → IsErr r
+    → read_u16.Learnt κs (input, tt) r (input', tt) → read_u16.Learnt κs (input', tt) r' (input'', tt)
+    → IsErr r' × (input'.now ≡ input.now) × (input''.now ≡ input.now)
+u16_stays_failed κs input input' input'' r r' e h h' =
+    stays_failed 2 2 _ _ input.now input'.now input''.now r r' (omega arith) e (u16_reads κs input input' r h) (u16_reads κs input' input'' r' h')
 
 -- 2 where at most 1 has a meaning
 pub no_meaning : (r : Result ℕ Malformed) → (IsOk r ↔ (2 ≤ 1)) → IsErr r

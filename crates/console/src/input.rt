@@ -41,6 +41,13 @@ impl<'a> Input<'a> {
         self.rest.is_empty()
     }
 
+    // The same bytes, to be read beside these.
+    pub fn fork(&self) -> Input<'a>
+        ensures { result ≡ self.now }
+    {
+        Input { rest: self.rest }
+    }
+
     // The next N bytes.
     fn chunk<const N: usize>(&mut self) -> Result<[u8; N], Malformed>
         ensures ok { IsOk result ↔ (N ≤ length self.old) }

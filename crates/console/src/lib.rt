@@ -1,8 +1,9 @@
 // What the programs share: standard input, numbers read from it one after the other, what is printed, and a run.
 #![tactic(auto)]
 
-ghost use Rattle.std.specs.Prelude.{◌<◌, length, OnOk};
+ghost use Rattle.std.specs.Prelude.{◌≡◌, ◌<◌, length, IsOk, OnOk};
 ghost use Rattle.std.specs.Io.{ReadsAtMost};
+ghost use Rattle.console.specs.Input.{Onward};
 
 pub mod input;
 pub mod output;
@@ -15,7 +16,7 @@ use std::io::{Read, Write};
 pub const MOST_INPUT: usize = 1048576;
 
 // Room for them and for one byte more, by which a longer input is known.
-const INPUT_ROOM: usize = MOST_INPUT + 1;
+pub const INPUT_ROOM: usize = MOST_INPUT + 1;
 
 // Why a run ends before its input does.
 #[derive(Clone, Copy)]
@@ -40,7 +41,8 @@ impl From<io::Error> for Stop {
 pub trait Program {
     // Reads the next operation, runs it, and prints what it answers.
     fn step<W: Write>(&mut self, out: &mut W, input: &mut Input) -> Result<(), Stop>
-        ensures { OnOk result (length input.new < length input.old) };
+        ensures further { OnOk result (length input.new < length input.old) }
+        ensures onward { Onward input.old input.new };
 }
 
 // Reads until the room is full or the input ends, and answers how many bytes it put there. (A loop by hand: the library fills a Vec, or the
@@ -59,12 +61,14 @@ pub fn read_full<R: Read>(input: &mut R, room: &mut [u8]) -> io::Result<usize>
     Ok(done)
 }
 
-// The operations one after the other, until nothing is left (a `while`: it counts no index). What is longer than a program takes is malformed,
-// and none of it is run.
-fn run_bytes<P: Program, W: Write>(program: &mut P, out: &mut W, bytes: &[u8]) -> Result<(), Stop> {
-    if MOST_INPUT < bytes.len() {
-        return Err(Stop::Malformed);
-    }
+// The operations one after the other, until nothing is left (a `while`: it counts no index).
+fn run_operations<P: Program, W: Write>(
+    program: &mut P,
+    out: &mut W,
+    bytes: &[u8],
+) -> Result<(), Stop>
+    ensures { length bytes.now ≡ 0 → IsOk result × (program.new ≡ program.old) × (out.new ≡ out.old) }
+{
     let mut input = Input::new(bytes);
     while !input.is_empty() {
         program.step(out, &mut input)?;
@@ -72,7 +76,19 @@ fn run_bytes<P: Program, W: Write>(program: &mut P, out: &mut W, bytes: &[u8]) -
     Ok(())
 }
 
-// The same from all of an input. What is malformed is printed as that, after what came before it.
+// The same, of bytes of any length. What is malformed is printed as that, after what came before it; where there are no bytes nothing is
+// run or printed.
+pub fn run_bytes<P: Program, W: Write>(program: &mut P, out: &mut W, bytes: &[u8]) -> io::Result<()>
+    ensures { length bytes.now ≡ 0 → IsOk result × (program.new ≡ program.old) × (out.new ≡ out.old) }
+{
+    match run_operations(program, out, bytes) {
+        Ok(()) => Ok(()),
+        Err(Stop::Malformed) => output::malformed(out),
+        Err(Stop::Failed(error)) => Err(error),
+    }
+}
+
+// The same from all of an input. What is longer than a program takes is malformed, and none of it is run.
 pub fn run<P: Program, R: Read, W: Write>(
     program: &mut P,
     input: &mut R,
@@ -80,9 +96,8 @@ pub fn run<P: Program, R: Read, W: Write>(
 ) -> io::Result<()> {
     let mut room = numbers::repeat::<_, INPUT_ROOM>(0);
     let n = read_full(input, &mut room)?;
-    match run_bytes(program, out, &room[..n]) {
-        Ok(()) => Ok(()),
-        Err(Stop::Malformed) => output::malformed(out),
-        Err(Stop::Failed(error)) => Err(error),
+    if MOST_INPUT < n {
+        return output::malformed(out);
     }
+    run_bytes(program, out, &room[..n])
 }

@@ -2,7 +2,7 @@
 // answers is printed. A call's function here answers Malformed where its arguments can't be read, and else what the call answers.
 #![tactic(auto)]
 
-ghost use Rattle.std.specs.Prelude.{◌≤◌, length};
+ghost use Rattle.console.specs.Input.{Onward};
 
 use calendar::DayType;
 use console::input::{Input, MOST_LENT, Malformed, Number, at_most, lent_numbers};
@@ -38,7 +38,7 @@ impl fmt::Display for Two {
 // ---- telemetered
 
 fn read_toll(input: &mut Input) -> Result<Toll, Malformed>
-    ensures { length input.new ≤ length input.old }
+    ensures { Onward input.old input.new }
 {
     if input.flag()? {
         Ok(Toll::Toll34)
@@ -48,7 +48,7 @@ fn read_toll(input: &mut Input) -> Result<Toll, Malformed>
 }
 
 fn read_flows(input: &mut Input) -> Result<Flows, Malformed>
-    ensures { length input.new ≤ length input.old }
+    ensures { Onward input.old input.new }
 {
     Ok(Flows {
         toll: read_toll(input)?,
@@ -59,7 +59,7 @@ fn read_flows(input: &mut Input) -> Result<Flows, Malformed>
 }
 
 fn telemetered(input: &mut Input) -> Result<Result<Two, Refusal>, Malformed>
-    ensures { length input.new ≤ length input.old }
+    ensures { Onward input.old input.new }
 {
     let mut room = numbers::repeat::<_, MOST_HOLIDAYS>(0);
     let day = u32::read(input)?;
@@ -84,7 +84,7 @@ fn telemetered(input: &mut Input) -> Result<Result<Two, Refusal>, Malformed>
 // ---- Type 1 and Type 2
 
 fn toll_34(input: &mut Input) -> Result<Result<u64, Refusal>, Malformed>
-    ensures { length input.new ≤ length input.old }
+    ensures { Onward input.old input.new }
 {
     let mut room = numbers::repeat::<_, MOST_DEGREE_DAYS>(0);
     let point = Toll34 {
@@ -99,7 +99,7 @@ fn toll_34(input: &mut Input) -> Result<Result<u64, Refusal>, Malformed>
 }
 
 fn other_toll(input: &mut Input) -> Result<Result<u64, Refusal>, Malformed>
-    ensures { length input.new ≤ length input.old }
+    ensures { Onward input.old input.new }
 {
     let mut room = numbers::repeat::<_, MOST_HOLIDAYS>(0);
     let point = OtherToll {
@@ -116,7 +116,7 @@ fn other_toll(input: &mut Input) -> Result<Result<u64, Refusal>, Malformed>
 }
 
 fn type_2(input: &mut Input) -> Result<Result<u64, Refusal>, Malformed>
-    ensures { length input.new ≤ length input.old }
+    ensures { Onward input.old input.new }
 {
     let mut first_room = numbers::repeat::<_, MOST_DEGREE_DAYS>(0);
     let mut second_room = numbers::repeat::<_, MOST_DEGREE_DAYS>(0);
@@ -134,7 +134,7 @@ fn type_2(input: &mut Input) -> Result<Result<u64, Refusal>, Malformed>
 }
 
 fn profile(input: &mut Input) -> Result<Result<u64, Refusal>, Malformed>
-    ensures { length input.new ≤ length input.old }
+    ensures { Onward input.old input.new }
 {
     let f1 = u64::read(input)?;
     let f2 = u64::read(input)?;
@@ -158,7 +158,7 @@ fn profile(input: &mut Input) -> Result<Result<u64, Refusal>, Malformed>
 // ---- degree days, zones and provinces
 
 fn degree_days(input: &mut Input) -> Result<Result<u64, Refusal>, Malformed>
-    ensures { length input.new ≤ length input.old }
+    ensures { Onward input.old input.new }
 {
     let tmin = i32::read(input)?;
     let tmax = i32::read(input)?;
@@ -166,14 +166,14 @@ fn degree_days(input: &mut Input) -> Result<Result<u64, Refusal>, Malformed>
 }
 
 fn zone(input: &mut Input) -> Result<Result<u64, Refusal>, Malformed>
-    ensures { length input.new ≤ length input.old }
+    ensures { Onward input.old input.new }
 {
     let hundredths = u32::read(input)?;
     Ok(zones::zone_of(hundredths))
 }
 
 fn province(input: &mut Input) -> Result<Result<Two, Refusal>, Malformed>
-    ensures { length input.new ≤ length input.old }
+    ensures { Onward input.old input.new }
 {
     let number = u32::read(input)?;
     let answer = zones::province_of(number);
@@ -197,7 +197,7 @@ fn print_spread<W: Write>(
 }
 
 fn spread<W: Write>(out: &mut W, input: &mut Input) -> Result<(), Stop>
-    ensures { length input.new ≤ length input.old }
+    ensures { Onward input.old input.new }
 {
     let mut room = numbers::repeat::<_, MOST_LENT>(0);
     let reading = u64::read(input)?;
@@ -220,7 +220,7 @@ fn name_of(day_type: DayType) -> &'static str {
 }
 
 fn day_type(input: &mut Input) -> Result<Result<&'static str, Refusal>, Malformed>
-    ensures { length input.new ≤ length input.old }
+    ensures { Onward input.old input.new }
 {
     let mut room = numbers::repeat::<_, MOST_HOLIDAYS>(0);
     let day = u32::read(input)?;
@@ -245,7 +245,7 @@ impl fmt::Display for Figures {
 }
 
 fn month(input: &mut Input) -> Result<Result<Figures, Refusal>, Malformed>
-    ensures { length input.new ≤ length input.old }
+    ensures { Onward input.old input.new }
 {
     let mut room = numbers::repeat::<_, MOST_HOLIDAYS>(0);
     let day = u32::read(input)?;
@@ -279,7 +279,12 @@ impl Program for Estimates {
     }
 }
 
-// Runs the operations of all of an input.
+// The operations one after the other, from bytes of any length.
+pub fn run<W: Write>(out: &mut W, bytes: &[u8]) -> io::Result<()> {
+    console::run_bytes(&mut Estimates, out, bytes)
+}
+
+// The same from all of an input.
 pub fn run_input<R: Read, W: Write>(input: &mut R, out: &mut W) -> io::Result<()> {
     console::run(&mut Estimates, input, out)
 }

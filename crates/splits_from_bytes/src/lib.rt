@@ -4,6 +4,7 @@
 
 ghost use Rattle.std.specs.Prelude.{◌≤◌, length};
 ghost use Rattle.proration.specs.Proration.{PARTIES};
+ghost use Rattle.console.specs.Input.{Onward};
 
 use console::input::{Input, Malformed, Number, at_most};
 use console::{Program, Stop};
@@ -19,7 +20,7 @@ const LINE_ROOM: usize = SHARE_BYTES * PARTIES;
 
 // The next numbers of u32, as many as the list has places.
 fn read_numbers(input: &mut Input, numbers: &mut [u64]) -> Result<(), Malformed>
-    ensures { length input.new ≤ length input.old }
+    ensures { Onward input.old input.new }
 {
     for x in numbers {
         *x = u32::read(input)?.into();
@@ -57,7 +58,7 @@ fn run_split<W: Write>(
     shares: &mut [i64],
 ) -> Result<(), Stop>
     requires { length shares.old ≤ PARTIES }
-    ensures { length input.new ≤ length input.old }
+    ensures { Onward input.old input.new }
 {
     read_numbers(input, weights)?;
     read_numbers(input, keys)?;
@@ -91,7 +92,12 @@ impl Program for Splits {
     }
 }
 
-// Runs them from all of an input.
+// Runs them from bytes of any length.
+pub fn run<W: Write>(out: &mut W, bytes: &[u8]) -> io::Result<()> {
+    console::run_bytes(&mut Splits, out, bytes)
+}
+
+// The same from all of an input.
 pub fn run_input<R: Read, W: Write>(input: &mut R, out: &mut W) -> io::Result<()> {
     console::run(&mut Splits, input, out)
 }
