@@ -105,6 +105,14 @@ pub fn is_history<E: Entries>(day: u32, history: &E) -> bool
     count <= ENTRIES && count <= day as usize && are_entries(history)
 }
 
+// The same of a history by value: of an array, a count of the entries that count, which none above 400 can be.
+#[tactic(auto, unfolding(crate::specs::History::history_right))]
+pub fn is_counted(day: u32, history: &[Entry; ENTRIES], count: usize) -> bool
+    ensures { result ≡ history_right day count history.now }
+{
+    count <= ENTRIES && is_history(day, &&history[..count])
+}
+
 // The search for the last three real readings on days of the gas day's type. (The form of document 01: one loop that yields what is found
 // by `break`.)
 pub fn search<E: Entries>(calendar: &Calendar, history: &E) -> Found

@@ -5,19 +5,21 @@ use mathlib.Core.List.{List, [], ◌∷◌}
 use Prim.Native.Nat.{ℕ, ◌≤◌, ◌<◌}
 use lib.Dec.{leb, eqb, eqb-suc-zero}
 use lib.ListN.{length, take}
-use lib.Seq.{take_all}
+use lib.Seq.{take_all, length-take-le}
 use native.Mathlib.Omega.{arith}
-use borrow.Author.Tests.{leb-true, lt-leb}
+use borrow.Author.Tests.{leb-true, le-leb, lt-leb}
 use Rattle.numbers.specs.Nearest.{nearest}
 use Rattle.numbers.specs.Sums.{pick}
 use Rattle.numbers.specs.Lists.{both, every}
 use Rattle.numbers.proofs.Lists.{both_fst, both_snd}
+use Rattle.numbers.proofs.Places.{every_until, until_every}
 use Rattle.numbers.specs.Refusals.{OUT_OF_RANGE, NO_BASIS}
 use Rattle.calendar.specs.Answers.{refused, given, tested}
 use Rattle.numbers.proofs.Sums.{cases}
 use mathlib.Core.Logic.{⊎_elim}
 use Rattle.history.specs.History.{ENTRIES, Dated, RealReading, entry_right, history_right, last_three, sum_of, mean_value, looked_at, is_empty, is_new}
 use Rattle.history.specs.Search.{found_in}
+use Rattle.history.proofs.Searching.{nothing}
 use Rattle.telemetered.specs.Telemetered.{with_basis, from_history, from_found, first_of, values_right, telemetered}
 use Rattle.supply.specs.NewConsumer.{new_consumption}
 use Rattle.std.specs.Prelude.{Option, None, Some}
@@ -36,6 +38,21 @@ module _ (d n : ℕ) (es : List Entry) (h : history_right d n es ≡ true) where
   pub history_entries : every entry_right (take n es) ≡ true
   unfolding history_right
   history_entries = both_snd (both (leb n ENTRIES) (leb n d)) _ h
+
+  pub history_short : n ≤ ENTRIES
+  unfolding history_right
+  history_short = leb-true n ENTRIES (both_fst _ (leb n d) (both_fst _ _ h))
+
+  pub length_counted : length es ≡ ENTRIES → (k : ℕ) → k ≤ n → length (take k es) ≡ k
+  length_counted full k l = length-take-le k es (omega (arith, full, l, history_short))
+
+  -- its first entries are a history too
+  pub right_counted : length es ≡ ENTRIES → (k : ℕ) → k ≤ n → history_right d (length (take k es)) (take k es) ≡ true
+  unfolding history_right
+  right_counted full k l =
+      let m = length_counted full k l in
+      let right = until_every entry_right nothing k es (omega (arith, full, l, history_short)) (λ i j. every_until entry_right nothing n es (omega (arith, full, history_short)) history_entries i (omega arith)) in
+      rw (m, take_all k (take k es) (omega (arith, m)), le-leb k ENTRIES (omega (arith, l, history_short)), le-leb k d (omega (arith, l, history_days))) right
 
 -- the first of two amounts, as the code takes it
 pub first_is : (a b : Option ℕ) → first_of a b ≡ option_or a b

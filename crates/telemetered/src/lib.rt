@@ -8,7 +8,8 @@ ghost use Rattle.numbers.specs.Lists.{both};
 ghost use Rattle.calendar.specs.Answers.{answer_of};
 ghost use Rattle.supply.specs.Amounts.{amount_right, flows_right};
 ghost use Rattle.telemetered.specs.OwnValue.{value_sent};
-ghost use Rattle.telemetered.specs.Telemetered.{from_found, telemetered};
+ghost use Rattle.history.specs.History.{history_right};
+ghost use Rattle.telemetered.specs.Telemetered.{from_found, values_right, telemetered};
 
 use calendar::Calendar;
 use history::{ENTRIES, Entries, Entry, Found};
@@ -52,6 +53,28 @@ fn are_amounts(reading: Option<u64>, own: Option<OwnValue>, flows: Flows) -> boo
         && supply::are_flows(flows)
 }
 
+// The consumption of a telemetered supply point once all that is given is in its range, the history too, however that is held.
+#[tactic(auto, unfolding(crate::specs::Telemetered::telemetered, crate::specs::Telemetered::values_right, calendar::specs::Answers::tested))]
+fn of_values<E: Entries>(
+    calendar: &Calendar,
+    reading: Option<u64>,
+    own: Option<OwnValue>,
+    flows: Flows,
+    history: &E,
+) -> Result<Estimate, Refusal>
+    requires values { values_right calendar.now.day calendar.now.holidays.now reading own flows ≡ true }
+    requires entries { history_right calendar.now.day (length (E.entries history.now)) (E.entries history.now) ≡ true }
+    ensures { answer_of result ≡ telemetered calendar.now.day calendar.now.holidays.now reading own flows (length (E.entries history.now)) (E.entries history.now) }
+{
+    if !own_value::is_arrival(own) {
+        return Err(Refusal::WrongArrival);
+    }
+    if let Some(kwh) = reading.or(own_value::value_to_use(own)) {
+        return Ok(Estimate { kwh, looked: 0 });
+    }
+    from_found(history::search(calendar, history), flows)
+}
+
 // The consumption of a telemetered supply point on a gas day, given its reading and the user's own value, if there are any, and its history,
 // however that is held.
 #[tactic(auto, unfolding(crate::specs::Telemetered::telemetered, crate::specs::Telemetered::values_right, calendar::specs::Answers::tested))]
@@ -69,17 +92,12 @@ pub fn consumption<E: Entries>(
     if !are_amounts(reading, own, flows) || !history::is_history(day, history) {
         return Err(Refusal::OutOfRange);
     }
-    if !own_value::is_arrival(own) {
-        return Err(Refusal::WrongArrival);
-    }
-    if let Some(kwh) = reading.or(own_value::value_to_use(own)) {
-        return Ok(Estimate { kwh, looked: 0 });
-    }
-    from_found(history::search(&calendar, history), flows)
+    of_values(&calendar, reading, own, flows, history)
 }
 
-// The same with the history by value. (The form of document 01: 400 entries, of which the first `count` are looked at.)
-#[tactic(auto)]
+// The same with the history by value. (The form of document 01: 400 entries, of which the first `count` are looked at. The tests stand here
+// again: that of the history is of the count too.)
+#[tactic(auto, unfolding(crate::specs::Telemetered::telemetered, crate::specs::Telemetered::values_right, calendar::specs::Answers::tested))]
 pub fn telemetered(
     day: u32,
     holidays: &[u32],
@@ -91,8 +109,9 @@ pub fn telemetered(
 ) -> Result<Estimate, Refusal>
     ensures { answer_of result ≡ telemetered day holidays.now reading own flows count history }
 {
-    if ENTRIES < count {
+    let calendar = Calendar::of(day, holidays)?;
+    if !are_amounts(reading, own, flows) || !history::is_counted(day, &history, count) {
         return Err(Refusal::OutOfRange);
     }
-    consumption(day, holidays, reading, own, flows, &&history[..count])
+    of_values(&calendar, reading, own, flows, &&history[..count])
 }

@@ -1,4 +1,4 @@
--- The average of the means of one winter, or of two, as the code holds them. Assumes nothing.
+-- The average of the means of one winter, or of two, as the code holds them. Assumes nothing. No exported contract leans on it.
 use Rattle.std.specs.Prelude.{List, ℕ, Option, None, Some}
 use denote.Ref.{Bor}
 use Rattle.temperature.specs.declared.Fraction.{Fraction}

@@ -20,7 +20,7 @@ small_34 None c None (Some v) h k l r = (omega (arith, leb-true v LIMIT l), omeg
 small_34 None c None None h k l r = tt
 
 -- a product of three
-three : {a b c x y z : ℕ} → a ≤ x → b ≤ y → c ≤ z → a * b * c ≤ x * y * z
+pub three : {a b c x y z : ℕ} → a ≤ x → b ≤ y → c ≤ z → a * b * c ≤ x * y * z
 three h k l = mul-le-mul (mul-le-mul h k) l
 
 pub small_other : (ly : Option ℕ) (cc : ℕ) (lm q : Option ℕ) (f n : ℕ) → amount_right ly ≡ true → amount_right lm ≡ true → amount_right q ≡ true

@@ -1,2 +1,4 @@
 pub mod Bases
+pub mod Passed34
+pub mod PassedOther
 pub mod Tolls

@@ -34,10 +34,10 @@ pub fn type_2(
 ) -> Result<u64, Refusal>
     ensures { answer_of result ≡ type_2 consumers profile g winters first.now second.now }
 {
-    let winters = Winters::of(winters, first, second)?;
     if MOST_CONSUMERS < consumers || MOST_PROFILE < profile || !temperature::are_degrees(g) {
         return Err(Refusal::OutOfRange);
     }
+    let winters = Winters::of(winters, first, second)?;
     let product = consumers as u64 * profile;
     if MOST_PRODUCT < product {
         return Err(Refusal::AboveLimit);
