@@ -49,6 +49,15 @@ pub cut_short : (r : Result ℕ Malformed) (after : List ℕ) → Reads 2 (λ s.
 cut_short (Ok x) after h = absurd (absent (h.ok.0 (refl {a = true})))
 cut_short (Err e) after h = (refl {a = true}, h.same)
 
+-- what is done after a number, if there is one, as `?` does it
+abbrev pub and_then : {A B : Type 0} → Result A Malformed → (A → Result B Malformed) → Result B Malformed
+and_then (Ok x) f = f x
+and_then (Err e) f = Err e
+
+-- what is malformed stays so: nothing that `?` would hand on to is run
+pub failed_ends : {A B : Type 0} (e : Malformed) (f : A → Result B Malformed) → and_then (Err e) f ≡ Err e
+failed_ends e f = refl
+
 -- where a number is cut short so is each of as many bytes or more that is read in its place, and nothing is passed over
 pub stays_failed : {A B : Type 0} (n m : ℕ) (spelled : List ℕ → A) (spelled' : List ℕ → B) (before after last : List ℕ) (r : Result A Malformed) (r' : Result B Malformed)
     → n ≤ m → IsErr r → Reads n spelled before r after → Reads m spelled' after r' last → IsErr r' × (after ≡ before) × (last ≡ before)
