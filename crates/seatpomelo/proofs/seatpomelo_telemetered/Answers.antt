@@ -18,7 +18,7 @@ returns-then-tags-values c =
     let f = flows_in s.toll s.yearly.now s.daily.now s.factor in
     let es = entries_in s.tags.now s.values.now in
     let long = too_long s.day s.holidays.now (amount_in s.reading.now) (own_in s.own.now s.arrival s.day_length) f in
-    rw (c.status.ensures, ne_eqb (length s.tags.now) (length s.values.now) c.if-tags-values.true) (sym (ap (λ a. settles estimate_numbers a (s.consumption.now ∷ s.looked_at.now ∷ [])) (long (ENTRIES + 1) es (omega arith))))
+    rw (c.status.ensures, ne_eqb (length s.tags.now) (length s.values.now) (λ e. omega arith)) (sym (ap (λ a. settles estimate_numbers a (s.consumption.now ∷ s.looked_at.now ∷ [])) (long (ENTRIES + 1) es (omega arith))))
 
 pub returns-in-Ok : goal.returns-in-Ok
 returns-in-Ok c =
