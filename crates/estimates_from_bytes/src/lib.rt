@@ -196,8 +196,6 @@ fn print_spread<W: Write>(
     output::amounts(out, lent)
 }
 
-// (A call of its own, for its buffers, as is `step`.)
-#[inline(never)]
 fn spread<W: Write>(out: &mut W, input: &mut Input) -> Result<(), Stop>
     ensures { Onward input.old input.new }
 {
@@ -262,8 +260,6 @@ struct Estimates;
 
 impl Program for Estimates {
     // (A match on the byte: an enum of the operations would be a second table of them, read here alone.)
-    // (A call of its own: its buffers are on the stack while an operation runs, and not for a whole run.)
-    #[inline(never)]
     fn step<W: Write>(&mut self, out: &mut W, input: &mut Input) -> Result<(), Stop> {
         match u8::read(input)? {
             1 => output::answer(out, "telemetered", telemetered(input)?)?,

@@ -38,7 +38,11 @@ pub fn taken_test(state: &State, emission: u64, downstream: u64) -> Result<(), R
 }
 
 // The tests of a measure on a point-day of which `test` is the test: one that is not taken is refused by 2.
-pub fn measure_test(test: &Result<State, Refusal>, emission: u64, downstream: u64) -> Result<(), Refusal>
+pub fn measure_test(
+    test: &Result<State, Refusal>,
+    emission: u64,
+    downstream: u64,
+) -> Result<(), Refusal>
     ensures { FindsOf test.now (status_of result ≡ OUT_OF_RANGE) (λ d. Tested emission downstream d (status_of result)) }
 {
     match test {

@@ -9,7 +9,9 @@ ghost use Rattle.report.specs.Lines.{NUMBER, LONGEST_LINE, of_slot, slot_line};
 use point_day::{CELLS, KINDS, USERS};
 use wire::TextBuffer;
 
-// A line: a word, numbers, each after a space, and a line feed.
+// A line: a word, numbers, each after a space, and a line feed. (Inline at each of its three calls, whose words are constants: a word of a
+// length that is not known is moved by `memmove`, which the archive would need from outside.)
+#[inline(always)]
 pub fn put_line(text: &mut TextBuffer, word: &[u8], numbers: &[i64])
     requires { text.old.len + length word.now + NUMBER * length numbers.now + 1 ≤ length text.old.buffer.now }
     ensures same_reference { text.new.buffer.ghost_name ≡ text.old.buffer.ghost_name }

@@ -28,8 +28,7 @@ fn read_numbers(input: &mut Input, numbers: &mut [u64]) -> Result<(), Malformed>
     Ok(())
 }
 
-// The shares, if there are any, on a line, which is written whole. (A call of its own, for its buffer, as is `step`.)
-#[inline(never)]
+// The shares, if there are any, on a line, which is written whole.
 #[tactic(auto, using(wire::proofs::Text::written_length))]
 fn print_line<W: Write>(out: &mut W, shares: &[i64]) -> io::Result<()>
     requires { length shares.now ≤ PARTIES }
@@ -75,8 +74,6 @@ fn run_split<W: Write>(
 struct Splits;
 
 impl Program for Splits {
-    // (A call of its own: its buffers are on the stack while an operation runs, and not for a whole run.)
-    #[inline(never)]
     fn step<W: Write>(&mut self, out: &mut W, input: &mut Input) -> Result<(), Stop> {
         let amount = i64::read(input)?;
         let count = u16::read(input)?;

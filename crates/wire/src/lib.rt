@@ -26,15 +26,6 @@ pub struct TextBuffer<'a> {
     pub len: usize,
 }
 
-// Text into a part of a buffer. (A call of its own, whose two slices are known to be apart: through a field they are not, and the archive
-// would need `memmove` from outside.)
-fn put(out: &mut [u8], text: &[u8])
-    requires { length out.old ≡ length text.now }
-    ensures { out.new ≡ text.now }
-{
-    out.copy_from_slice(text);
-}
-
 impl<'a> TextBuffer<'a> {
     // No text.
     pub fn new(buffer: &'a mut [u8]) -> TextBuffer<'a>
@@ -51,7 +42,7 @@ impl<'a> TextBuffer<'a> {
         ensures added { Added self.old.buffer.now self.old.len text.now self.new.buffer.now self.new.len }
     {
         let end = self.len + text.len();
-        put(&mut self.buffer[self.len..end], text);
+        self.buffer[self.len..end].copy_from_slice(text);
         self.len = end;
     }
 

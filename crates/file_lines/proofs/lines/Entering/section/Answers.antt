@@ -1,4 +1,5 @@
 -- `file_lines::lines::Entering::section` meets its contract: its user joins, then line after line is added. Assumes nothing.
+use native.Mathlib.Omega.{arith}
 use Rattle.std.proofs.Common.{◌+◌, subst, arith}
 use Rattle.numbers.specs.Refusals.{number_of}
 use Rattle.numbers.proofs.Refusals.{refusal_passed}
@@ -32,7 +33,7 @@ loop-j-init c =
 pub line-requires : goal.line-requires
 line-requires c =
     let l = c.loop-j.invariant in
-    (l.room, sum_small l.holds, limited_consumption l.holds, limited_losses l.holds)
+    (omega (arith, l.room), sum_small l.holds, limited_consumption l.holds, limited_losses l.holds)
 
 pub returns-in_err-offtake-clause-comes_to : goal.returns-in_err-offtake-clause-comes_to
 returns-in_err-offtake-clause-comes_to c =
