@@ -94,16 +94,22 @@ fn put_balances(day: PointDay, balance: [i64; CELLS]) -> PointDay
 // The tests of an allot on a point-day of which `test` is the test, and these are cells and revisions: one that is not taken is refused by 2.
 pub fn allot_test<'a>(
     test: &Result<State, Refusal>,
-    consumption: &'a [i64; CELLS],
-    losses: &'a [i64; CELLS],
-    revision: &'a [i64; USERS],
+    consumption: &'a [i64],
+    losses: &'a [i64],
+    revision: &'a [i64],
     cells: &mut [i64; CELLS],
 ) -> Result<(), Refusal>
     requires { IfOk test.now (λ s. Some (Has s consumption.now losses.now revision.now)) × (cells.old ≡ padded CELLS (pos 0) []) }
     ensures { FindsOf test.now (status_of result ≡ OUT_OF_RANGE) (λ d. d.consumption ≡ consumption.now → d.losses ≡ losses.now → d.revision ≡ revision.now → Tested cells.new d (status_of result)) }
 {
     match test {
-        Ok(state) => taken_test(state, consumption, losses, revision, cells),
+        Ok(state) => taken_test(
+            state,
+            consumption.as_array().unwrap(),
+            losses.as_array().unwrap(),
+            revision.as_array().unwrap(),
+            cells,
+        ),
         Err(_) => Err(Refusal::OutOfRange),
     }
 }

@@ -15,7 +15,7 @@ use Rattle.taken.proofs.Facts.{facts, taken_summable}
 use Rattle.allot.specs.Allotted.{Tested}
 use Rattle.allot.proofs.balance.Cells.{none_long}
 use Rattle.allot.proofs.OfParts.{is_of_parts, allottable_parts}
-use Rattle.allot.proofs.Outcomes.{filled_long, cells_in_range, balances_small, large_after, users_are, sum_small, difference_is, balance_small, cells_left, allot_12, allot_done, fails, passes}
+use Rattle.allot.proofs.Outcomes.{cells_in_range, balances_small, large_after, users_are, sum_small, difference_is, balance_small, cells_left, allot_12, allot_done, fails, passes}
 use Rattle.allot.proofs.cells_test.Goals as goal
 
 pub net-requires : goal.net-requires
