@@ -1,7 +1,7 @@
 // Calls on one point-day from bytes: an operation is a byte and its arguments, little-endian; what each call answers is printed.
 #![tactic(auto)]
 
-ghost use Rattle.std.specs.Prelude.{◌≡◌, true, ◌<◌};
+ghost use Rattle.std.specs.Prelude.{◌≡◌, true, ◌<◌, length, IsOk};
 ghost use Rattle.point_day.specs.Limits.{USERS};
 ghost use Rattle.point_day.specs.Day.{measurement_right};
 ghost use Rattle.point_day.specs.Struct.{taken};
@@ -227,8 +227,10 @@ fn fresh_calls() -> Calls {
     }
 }
 
-// The operations one after the other, from bytes of any length.
-pub fn run<W: Write>(out: &mut W, bytes: &[u8]) -> io::Result<()> {
+// The operations one after the other, from bytes of any length; where there are no bytes nothing is printed.
+pub fn run<W: Write>(out: &mut W, bytes: &[u8]) -> io::Result<()>
+    ensures { length bytes.now ≡ 0 → IsOk result × (out.new ≡ out.old) }
+{
     console::run_bytes(&mut fresh_calls(), out, bytes)
 }
 

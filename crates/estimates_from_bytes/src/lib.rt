@@ -2,6 +2,7 @@
 // answers is printed. A call's function here answers Malformed where its arguments can't be read, and else what the call answers.
 #![tactic(auto)]
 
+ghost use Rattle.std.specs.Prelude.{◌≡◌, length, IsOk};
 ghost use Rattle.console.specs.Input.{Onward};
 
 use calendar::DayType;
@@ -279,8 +280,10 @@ impl Program for Estimates {
     }
 }
 
-// The operations one after the other, from bytes of any length.
-pub fn run<W: Write>(out: &mut W, bytes: &[u8]) -> io::Result<()> {
+// The operations one after the other, from bytes of any length; where there are no bytes nothing is printed.
+pub fn run<W: Write>(out: &mut W, bytes: &[u8]) -> io::Result<()>
+    ensures { length bytes.now ≡ 0 → IsOk result × (out.new ≡ out.old) }
+{
     console::run_bytes(&mut Estimates, out, bytes)
 }
 

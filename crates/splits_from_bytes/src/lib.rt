@@ -2,7 +2,7 @@
 // its shares are printed on a line. The first case that is cut short or out of range ends the run.
 #![tactic(auto)]
 
-ghost use Rattle.std.specs.Prelude.{◌≤◌, length};
+ghost use Rattle.std.specs.Prelude.{◌≡◌, ◌≤◌, length, IsOk};
 ghost use Rattle.proration.specs.Proration.{PARTIES};
 ghost use Rattle.console.specs.Input.{Onward};
 
@@ -92,8 +92,10 @@ impl Program for Splits {
     }
 }
 
-// Runs them from bytes of any length.
-pub fn run<W: Write>(out: &mut W, bytes: &[u8]) -> io::Result<()> {
+// Runs them from bytes of any length; where there are no bytes nothing is printed.
+pub fn run<W: Write>(out: &mut W, bytes: &[u8]) -> io::Result<()>
+    ensures { length bytes.now ≡ 0 → IsOk result × (out.new ≡ out.old) }
+{
     console::run_bytes(&mut Splits, out, bytes)
 }
 
