@@ -8,7 +8,7 @@ ghost use Rattle.point_day.specs.Struct.{taken};
 ghost use Rattle.console.specs.Input.{Onward};
 
 use console::input::{Input, MOST_LENT, Number, at_most, lent_numbers};
-use console::{Program, Stop, output};
+use console::{OnwardProgram, Stop, output};
 use day_report::REPORT_ROOM;
 use point_day::{Accepted, Answer, KINDS, Measurement, Outcome, PointDay, Stage};
 use std::io;
@@ -198,7 +198,7 @@ impl Calls {
     }
 }
 
-impl Program for Calls {
+impl OnwardProgram for Calls {
     // (A match on the byte: an enum of the operations would be a second table of them, read here alone.)
     fn step<W: Write>(&mut self, out: &mut W, input: &mut Input) -> Result<(), Stop> {
         match u8::read(input)? {

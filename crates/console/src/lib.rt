@@ -41,8 +41,21 @@ impl From<io::Error> for Stop {
 pub trait Program {
     // Reads the next operation, runs it, and prints what it answers.
     fn step<W: Write>(&mut self, out: &mut W, input: &mut Input) -> Result<(), Stop>
+        ensures { OnOk result (length input.new < length input.old) };
+}
+
+// A program of which each operation leaves the input that it was given, further on, and no other.
+pub trait OnwardProgram {
+    // The same, and what is read next is of the same bytes.
+    fn step<W: Write>(&mut self, out: &mut W, input: &mut Input) -> Result<(), Stop>
         ensures further { OnOk result (length input.new < length input.old) }
         ensures onward { Onward input.old input.new };
+}
+
+impl<P: OnwardProgram> Program for P {
+    fn step<W: Write>(&mut self, out: &mut W, input: &mut Input) -> Result<(), Stop> {
+        OnwardProgram::step(self, out, input)
+    }
 }
 
 // Reads until the room is full or the input ends, and answers how many bytes it put there. (A loop by hand: the library fills a Vec, or the
@@ -100,4 +113,67 @@ pub fn run<P: Program, R: Read, W: Write>(
         return output::malformed(out);
     }
     run_bytes(program, out, &room[..n])
+}
+
+#[cfg(test)]
+mod tests {
+    use super::*;
+    use input::Number;
+    use std::test::Fail;
+
+    // Reads two bytes and leaves another in place of what follows; then that one.
+    #[derive(Drop)]
+    struct Replaces {
+        operations: u8,
+        last: u8,
+    }
+
+    impl Program for Replaces {
+        fn step<W: Write>(&mut self, _out: &mut W, input: &mut Input) -> Result<(), Stop> {
+            self.operations = self.operations.saturating_add(1);
+            if u16::read(input).is_ok() {
+                *input = Input::new(b"\x07");
+            } else {
+                self.last = u8::read(input)?;
+            }
+            Ok(())
+        }
+    }
+
+    // What is left after an operation is what the next one gets, whatever bytes they are.
+    #[test]
+    fn runs_what_is_left(rt: HostRuntime) -> Result<(), Fail> {
+        let mut program = Replaces {
+            operations: 0,
+            last: 0,
+        };
+        run_bytes(&mut program, &mut io::sink(), b"\x01\x02\x03\x04\x05")?;
+        assert_eq!(rt; program.operations, 2);
+        assert_eq!(rt; program.last, 7);
+        Ok(())
+    }
+
+    // Adds up numbers of two bytes.
+    #[derive(Drop)]
+    struct Sum {
+        sum: u16,
+    }
+
+    impl OnwardProgram for Sum {
+        fn step<W: Write>(&mut self, _out: &mut W, input: &mut Input) -> Result<(), Stop> {
+            self.sum = self.sum.wrapping_add(u16::read(input)?);
+            Ok(())
+        }
+    }
+
+    // One that goes on in its own bytes is run as any other: to the end, and where it is cut short, malformed after what came before.
+    #[test]
+    fn runs_onward(rt: HostRuntime) -> Result<(), Fail> {
+        let mut program = Sum { sum: 0 };
+        let mut out = [0; 16];
+        run_bytes(&mut program, &mut &mut out[..], b"\x01\0\x02\0\x05")?;
+        assert_eq!(rt; program.sum, 3);
+        assert_eq!(rt; out.as_slice(), b"malformed\n\0\0\0\0\0\0".as_slice());
+        Ok(())
+    }
 }

@@ -7,7 +7,7 @@ ghost use Rattle.console.specs.Input.{Onward};
 
 use calendar::DayType;
 use console::input::{Input, MOST_LENT, Malformed, Number, at_most, lent_numbers};
-use console::{Program, Stop, output};
+use console::{OnwardProgram, Stop, output};
 use months::MonthFigures;
 use numbers::Refusal;
 use std::io::{Read, Write};
@@ -259,7 +259,7 @@ fn month(input: &mut Input) -> Result<Result<Figures, Refusal>, Malformed>
 #[derive(Clone, Copy)]
 struct Estimates;
 
-impl Program for Estimates {
+impl OnwardProgram for Estimates {
     // (A match on the byte: an enum of the operations would be a second table of them, read here alone.)
     fn step<W: Write>(&mut self, out: &mut W, input: &mut Input) -> Result<(), Stop> {
         match u8::read(input)? {

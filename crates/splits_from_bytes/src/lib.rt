@@ -7,7 +7,7 @@ ghost use Rattle.proration.specs.Proration.{PARTIES};
 ghost use Rattle.console.specs.Input.{Onward};
 
 use console::input::{Input, Malformed, Number, at_most};
-use console::{Program, Stop};
+use console::{OnwardProgram, Stop};
 use proration::PARTIES;
 use std::io;
 use std::io::{Read, Write};
@@ -73,7 +73,7 @@ fn run_split<W: Write>(
 #[derive(Clone, Copy)]
 struct Splits;
 
-impl Program for Splits {
+impl OnwardProgram for Splits {
     fn step<W: Write>(&mut self, out: &mut W, input: &mut Input) -> Result<(), Stop> {
         let amount = i64::read(input)?;
         let count = u16::read(input)?;
