@@ -44,7 +44,7 @@ pub trait Program {
         ensures { OnOk result (length input.new < length input.old) };
 }
 
-// A program of which each operation leaves the input that it was given, further on, and no other.
+// A program whose operations go on in the bytes that they were given. Each is a `Program`.
 pub trait OnwardProgram {
     // The same, and what is read next is of the same bytes.
     fn step<W: Write>(&mut self, out: &mut W, input: &mut Input) -> Result<(), Stop>
@@ -153,27 +153,35 @@ mod tests {
         Ok(())
     }
 
-    // Adds up numbers of two bytes.
+    // Adds up numbers of two bytes, and prints each sum.
     #[derive(Drop)]
     struct Sum {
         sum: u16,
     }
 
     impl OnwardProgram for Sum {
-        fn step<W: Write>(&mut self, _out: &mut W, input: &mut Input) -> Result<(), Stop> {
+        fn step<W: Write>(&mut self, out: &mut W, input: &mut Input) -> Result<(), Stop> {
             self.sum = self.sum.wrapping_add(u16::read(input)?);
+            writeln!(out, "{}", self.sum)?;
             Ok(())
         }
     }
 
-    // One that goes on in its own bytes is run as any other: to the end, and where it is cut short, malformed after what came before.
+    // One that goes on in its own bytes is run to their end.
     #[test]
     fn runs_onward(rt: HostRuntime) -> Result<(), Fail> {
-        let mut program = Sum { sum: 0 };
+        let mut out = [0; 8];
+        run_bytes(&mut Sum { sum: 0 }, &mut &mut out[..], b"\x01\0\x02\0")?;
+        assert_eq!(rt; out.as_slice(), b"1\n3\n\0\0\0\0".as_slice());
+        Ok(())
+    }
+
+    // Where they are cut short, malformed is printed after what came before.
+    #[test]
+    fn runs_to_the_cut(rt: HostRuntime) -> Result<(), Fail> {
         let mut out = [0; 16];
-        run_bytes(&mut program, &mut &mut out[..], b"\x01\0\x02\0\x05")?;
-        assert_eq!(rt; program.sum, 3);
-        assert_eq!(rt; out.as_slice(), b"malformed\n\0\0\0\0\0\0".as_slice());
+        run_bytes(&mut Sum { sum: 0 }, &mut &mut out[..], b"\x01\0\x02\0\x05")?;
+        assert_eq!(rt; out.as_slice(), b"1\n3\nmalformed\n\0\0".as_slice());
         Ok(())
     }
 }
